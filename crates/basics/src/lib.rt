@@ -1,0 +1,1 @@
+// Definitions that every other crate's specs use: see specs/. No code.

@@ -1,0 +1,2 @@
+-- The block of a job file, after document 01, "Job files".
+pub mod Block

@@ -1,0 +1,37 @@
+-- The job that a stream holds, as a run sees it: no bytes, no limits, any number of processes.
+use Prim.Native.Nat.{ℕ}
+use mathlib.Core.Bool.{Bool}
+use mathlib.Core.List.{List}
+use Rattle.basics.specs.Choice.{pick, same}
+use Rattle.job.specs.declared.Kind.{Kind}
+use Rattle.job.specs.declared.Kind.the-variants.{Queue, Stack}
+use Rattle.job.specs.Stream.{kind, operations, schedule-length, process, action, value, scheduled}
+
+pub record Job : Type 0 where
+  -- "kind (1 queue, 2 stack)"
+  pub object : Kind
+  -- the number of operations, N; they are 1 to N
+  pub count : ℕ
+  -- the process that does an operation
+  pub owner : ℕ → ℕ
+  -- is an operation a put? Else it is a take
+  pub is-put : ℕ → Bool
+  -- the value that a put brings, in mm
+  pub millimetres : ℕ → ℕ
+  -- the schedule's length, S; steps are 1 to S
+  pub steps : ℕ
+  -- the process that the schedule names for a step
+  pub entry : ℕ → ℕ
+
+-- the job in a stream
+unfoldable pub job-of : List ℕ → Job
+job-of s =
+    record {
+      object = pick (same (kind s) 1) Queue Stack;
+      count = operations s;
+      owner = process s;
+      is-put = λ o. same (action s o) 1;
+      millimetres = value s;
+      steps = schedule-length s;
+      entry = scheduled s;
+    }
