@@ -1,0 +1,3 @@
+-- Laws of the small tools: nothing outside of these files opens `pick`, `same`, `less` or `upd`.
+pub mod Choice
+pub mod Maps
