@@ -1,0 +1,37 @@
+-- The record of a run of k steps: "one order of effects that explains every answer". Document 01: "Lines stand in the order of their
+-- steps." No two operations make one step, so a step has at most one line: the effect of the operation that made it.
+use Prim.Native.Nat.{ℕ, zero, suc}
+use mathlib.Core.List.{List, [], _∷_, _++_, map}
+use Rattle.basics.specs.Choice.{pick, same}
+use Rattle.job.specs.Job.{Job}
+use Rattle.machine.specs.Multiplicity.{Line}
+use Rattle.machine.specs.Journal.{note}
+use Rattle.machine.specs.Effects.{Effect, effect}
+use Rattle.machine.specs.Effects.Effect.{none, stands}
+
+-- a line of the record, with its step
+pub record Recorded : Type 0 where
+  pub step : ℕ
+  pub line : Line
+
+-- an effect's line, if it stands at step s
+unfoldable pub if-at : ℕ → Effect → List Recorded
+if-at s none = []
+if-at s (stands at line) = pick (same at s) (record { step = s; line = line } ∷ []) []
+
+-- the line at step s of a run of k steps, if there is one
+unfoldable pub line-at : Job → ℕ → ℕ → List Recorded
+line-at j k s = if-at s (effect j k (note j s .by))
+
+-- the lines at steps 1 to s of a run of k steps
+unfoldable pub lines-to : Job → ℕ → ℕ → List Recorded
+lines-to j k zero = []
+lines-to j k (suc s) = lines-to j k s ++ line-at j k (suc s)
+
+-- the record of a run of k steps
+unfoldable pub the-record : Job → ℕ → List Recorded
+the-record j k = lines-to j k k
+
+-- its lines without their steps, as a machine plays them
+unfoldable pub lines-of : List Recorded → List Line
+lines-of l = map (λ r. r .line) l

@@ -1,0 +1,105 @@
+-- The step table. Document 01, "The steps": "The two listings are one table of nineteen rows." A row gives its access, its successor
+-- if the access succeeds, and if not. A successor is a row or an end. Where the paper has one successor, both are that.
+use Prim.Native.Nat.{ℕ}
+use mathlib.Core.Bool.{Bool, true, false}
+use mathlib.Core.List.{List, [], _∷_}
+use lib.ListN.{getD}
+use Rattle.job.specs.declared.Kind.{Kind}
+use Rattle.job.specs.declared.Kind.the-variants.{Queue, Stack}
+use Rattle.machine.specs.declared.Row.{Row}
+use Rattle.machine.specs.declared.Row.the-variants.{Q1, Q2, Q3, Q4, Q5, T1, T2, T3, T4, T5, P1, P2, P3, P4, R1, R2, R3, R4, R5, Done, ItemN, ItemT, Empty}
+use Rattle.machine.specs.declared.Access.{Access}
+use Rattle.machine.specs.declared.Access.the-variants.{ReadHead, ReadTail, ReadNextOfH, ReadNextOfT, Link, TailToOwn, TailToN, HeadToN, ReadTopToPut, ReadTopToTake, ReadMark, Push, RaiseMark, TopToNext}
+use Rattle.machine.specs.declared.Outcome.{Outcome}
+use Rattle.machine.specs.declared.Outcome.the-variants.{Yes, No, Bare}
+use Rattle.machine.specs.declared.Entry.{Entry}
+
+unfoldable pub row : Access → Row → Row → Entry
+row reach then else = record { access = reach; yes = then; no = else }
+
+unfoldable pub table : List Entry
+unfolding row
+table =
+    -- "Queue put. Q1 read Tail as t."
+    row ReadTail Q2 Q2
+    -- "Q2 read t's next as n: none, go to Q3; else Q5."
+    ∷ row ReadNextOfT Q3 Q5
+    -- "Q3 set t's next from none to the own node: changed, Q4; else Q1."
+    ∷ row Link Q4 Q1
+    -- "Q4 set Tail from t to the own node; end, done."
+    ∷ row TailToOwn Done Done
+    -- "Q5 set Tail from t to n; Q1."
+    ∷ row TailToN Q1 Q1
+    -- "Queue take. T1 read Head as h."
+    ∷ row ReadHead T2 T2
+    -- "T2 read Tail as t."
+    ∷ row ReadTail T3 T3
+    -- "T3 read h's next as n: if h = t and n is none, end, empty; if h = t, T4; else T5."
+    ∷ row ReadNextOfH T5 T4
+    -- "T4 set Tail from t to n; T1."
+    ∷ row TailToN T1 T1
+    -- "T5 set Head from h to n; end with item n, changed or not."
+    ∷ row HeadToN ItemN ItemN
+    -- "Stack put. P1 read Top as t: none, P3; else P2."
+    ∷ row ReadTopToPut P3 P2
+    -- "P2 read t's mark: clear, P3; else P4."
+    ∷ row ReadMark P3 P4
+    -- "P3 set Top from t to the own node, whose next becomes t: changed, end, done; else P1."
+    ∷ row Push Done P1
+    -- "P4 set Top from t to t's next; P1."
+    ∷ row TopToNext P1 P1
+    -- "Stack take. R1 read Top as t: none, end, empty; else R2."
+    ∷ row ReadTopToTake R2 R2
+    -- "R2 read t's mark: clear, R3; else R5."
+    ∷ row ReadMark R3 R5
+    -- "R3 raise t's mark."
+    ∷ row RaiseMark R4 R4
+    -- "R4 set Top from t to t's next; end with item t, changed or not."
+    ∷ row TopToNext ItemT ItemT
+    -- "R5 set Top from t to t's next; R1."
+    ∷ row TopToNext R1 R1
+    ∷ []
+
+-- a row's position in the table; the four ends come behind it
+unfoldable pub position : Row → ℕ
+position Q1 = 0
+position Q2 = 1
+position Q3 = 2
+position Q4 = 3
+position Q5 = 4
+position T1 = 5
+position T2 = 6
+position T3 = 7
+position T4 = 8
+position T5 = 9
+position P1 = 10
+position P2 = 11
+position P3 = 12
+position P4 = 13
+position R1 = 14
+position R2 = 15
+position R3 = 16
+position R4 = 17
+position R5 = 18
+position Done = 19
+position ItemN = 20
+position ItemT = 21
+position Empty = 22
+
+-- the table's row for where an operation stands; an ended one makes no step, so what stands there for an end does not matter
+unfoldable pub row-of : Row → Entry
+unfolding row
+row-of r = getD table (position r) (row ReadHead Q1 Q1)
+
+-- "Bare" is T3's and R1's "end, empty"
+unfoldable pub successor : Entry → Outcome → Row
+successor e Yes = e .yes
+successor e No = e .no
+successor e Bare = Empty
+
+-- where an operation begins, by its object and by whether it is a put
+unfoldable pub first-row : Kind → Bool → Row
+first-row Queue true = Q1
+first-row Queue false = T1
+first-row Stack true = P1
+first-row Stack false = R1

@@ -1,0 +1,95 @@
+// The words of a run that code and definitions share: rows, accesses, places and what a step was.
+
+// An operation's number; operations count from 1, and 0 is none.
+pub struct Operation(pub u16);
+
+// A step's number; steps count from 1.
+pub struct Step(pub u16);
+
+// A process's number; processes count from 0.
+pub struct Process(pub u8);
+
+// Where an operation stands: at one of the nineteen rows of the two listings, or ended, with done, with item n, with item t,
+// or with empty.
+pub enum Row {
+    Q1,
+    Q2,
+    Q3,
+    Q4,
+    Q5,
+    T1,
+    T2,
+    T3,
+    T4,
+    T5,
+    P1,
+    P2,
+    P3,
+    P4,
+    R1,
+    R2,
+    R3,
+    R4,
+    R5,
+    Done,
+    ItemN,
+    ItemT,
+    Empty,
+}
+
+// What a row does to shared memory: one read, one write or one compare-and-set.
+pub enum Access {
+    ReadHead,
+    ReadTail,
+    ReadNextOfH,
+    ReadNextOfT,
+    Link,
+    TailToOwn,
+    TailToN,
+    HeadToN,
+    ReadTopToPut,
+    ReadTopToTake,
+    ReadMark,
+    Push,
+    RaiseMark,
+    TopToNext,
+}
+
+// How an access came out: by it a row chooses its successor. Bare: the object was found empty, which ends a take.
+pub enum Outcome {
+    Yes,
+    No,
+    Bare,
+}
+
+// A row of the step table: the access, the successor if it succeeds, and if not.
+pub struct Entry {
+    pub access: Access,
+    pub yes: Row,
+    pub no: Row,
+}
+
+// The place of one process: the operation in hand, the row where it stands, and its registers, which hold nodes.
+pub struct Place {
+    pub operation: Operation,
+    pub row: Row,
+    pub h: u16,
+    pub t: u16,
+    pub n: u16,
+}
+
+// What a step was for the record.
+pub enum Event {
+    // none of those below
+    Quiet,
+    // T1 or R1: a take begins a round
+    Round,
+    // a changing Q3 or P3
+    Linked,
+    // T5 for an item, which moved Head
+    Moved(u16),
+    // T5 for an item, which found Head moved
+    Late(u16),
+    // R3 on an item
+    Raised(u16),
+}
