@@ -1,0 +1,1 @@
+-- From an object's laws to Explained, once, for every object. Assumes nothing.

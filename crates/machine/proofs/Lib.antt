@@ -1,0 +1,12 @@
+-- Demand 3: why the record explains every run. Read in this order.
+pub mod Lists
+pub mod Searches
+pub mod Operations
+pub mod Turn
+pub mod Life
+pub mod Lines
+pub mod Laws
+pub mod Explains
+pub mod Queue
+pub mod Stack
+pub mod Theorem

@@ -1,0 +1,1 @@
+-- Facts about lists of numbers: membership, no repetition, and that distinct numbers from 1 to n are at most n. Assumes nothing.

@@ -1,0 +1,1 @@
+-- The queue meets the laws. Assumes nothing.

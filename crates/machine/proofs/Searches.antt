@@ -1,0 +1,1 @@
+-- Laws of the searches `earliest`, `latest` and `largest`: what they find, that it stays, and how one more step changes it. Assumes nothing.

@@ -1,0 +1,1 @@
+-- The stack meets the laws. Assumes nothing.
