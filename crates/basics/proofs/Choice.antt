@@ -12,6 +12,11 @@ pub both : (b : Bool) → (b ≡ true) ⊎ (b ≡ false)
 both true = inl refl
 both false = inr refl
 
+-- what holds of each answer of a test holds of the test
+pub test-elim {κ} : (P : Bool → Type κ) (t : Bool) → (t ≡ true → P true) → (t ≡ false → P false) → P t
+test-elim P true f g = f refl
+test-elim P false f g = g refl
+
 pub pick-true {ℓ} : {A : Type ℓ} (a b : A) → pick true a b ≡ a
 unfolding pick
 pick-true a b = refl

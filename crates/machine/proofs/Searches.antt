@@ -1,13 +1,11 @@
 -- Laws of the searches `earliest`, `latest` and `largest`: what one more step does to them, that what they find meets the test and is
 -- the least or greatest that does, and that nothing was there if they find nothing. Assumes nothing.
-use mathlib.Core.Path.{_≡_, refl, sym, ap, subst, _∙_}
+use mathlib.Core.Path.{_≡_, refl, sym, ap, _∙_}
 use mathlib.Core.Logic.{_≢_, _⊎_, inl, inr}
 use Prim.Native.Nat.{ℕ, zero, suc, _≤_, _<_, max}
 use mathlib.Core.Bool.{Bool, true, false, true≢false}
 use mathlib.Core.List.{List, [], _∷_, List·Memᴰ, List·Memᴰ·head, List·Memᴰ·tail}
-use native.Mathlib.Nat.{le-max-left, le-max-right}
 use native.Mathlib.Omega.{arith, max-cases}
-use Rattle.basics.specs.Choice.{pick, same}
 use Rattle.basics.proofs.Choice.{both, split, compare, pick-then, pick-else, equal-same, unequal-same}
 use Rattle.machine.specs.Journal.{earliest, latest}
 use Rattle.machine.specs.Effects.{largest}
