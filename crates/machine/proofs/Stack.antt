@@ -1,1 +1,2 @@
 -- The stack meets the laws. Assumes nothing.
+pub mod Nodes
