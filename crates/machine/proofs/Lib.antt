@@ -4,6 +4,7 @@ pub mod Searches
 pub mod Operations
 pub mod Turn
 pub mod Life
+pub mod Standing
 pub mod Lines
 pub mod Laws
 pub mod Explains
