@@ -1,2 +1,4 @@
 -- The stack meets the laws. Assumes nothing.
 pub mod Nodes
+pub mod Raised
+pub mod Rows
