@@ -1,48 +1,19 @@
--- A run seen by its operations: each operation keeps its row and registers for ever, and an object moves by whoever acts. The place of a
--- process is the operation in its hand (`Operations/Hands.antt`), so nothing above this file knows of processes. Assumes nothing.
-use mathlib.Core.Path.{_≡_}
-use mathlib.Core.Logic.{_≢_, _⊎_}
-use Prim.Native.Nat.{ℕ, zero, suc, _≤_}
-use mathlib.Core.Bool.{Bool, true, false}
-use Rattle.basics.specs.Choice.{pick, same}
+-- Every step of a run is idle or an operation's. The place of a process is the operation in its hand (`Operations/Hands.antt`), so nothing
+-- above this file knows of processes. Assumes nothing.
+pub mod Locals
+pub mod Hands
+use mathlib.Core.Path.{_≡_, sym, ap, _∙_}
+use mathlib.Core.Logic.{_≢_, _⊎_, inl, inr}
+use Prim.Native.Nat.{ℕ, suc, _≤_, _<_}
+use mathlib.Core.Bool.{false}
+use Rattle.basics.proofs.Choice.{compare}
 use Rattle.job.specs.Job.{Job}
-use Rattle.machine.specs.declared.Row.{Row}
 use Rattle.machine.specs.declared.Event.the-variants.{Quiet}
-use Rattle.machine.specs.Memory.{Memory}
-use Rattle.machine.specs.Table.{row-of, successor, first-row}
-use Rattle.machine.specs.Access.{Registers, Reached}
-use Rattle.machine.specs.Run.{state-after, ended, reach}
-use Rattle.machine.specs.Journal.{Answer, note, event-of, answer-of}
-
--- the row and the registers of an operation
-pub record Local : Type 0 where
-  pub row : Row
-  pub registers : Registers
-
--- an operation before its first step
-unfoldable pub initial : Job → ℕ → Local
-initial j o = record { row = first-row (j .object) (j .is-put o); registers = record { h = 0; t = 0; n = 0 } }
-
--- the operation that makes step k, 0 if nobody does
-unfoldable pub actor : Job → ℕ → ℕ
-actor j k = note j k .by
-
--- shared memory after k steps
-unfoldable pub memory : Job → ℕ → Memory
-memory j k = state-after j k .memory
-
--- what a step of an operation reaches
-unfoldable pub reaches : ℕ → Memory → Local → Reached
-reaches o m l = reach (l .row) o m (l .registers)
-
--- an operation after its step
-unfoldable pub local-after : ℕ → Memory → Local → Local
-local-after o m l = record { row = successor (row-of (l .row)) (reaches o m l .outcome); registers = reaches o m l .registers }
-
--- the row and the registers of operation o after k steps
-unfoldable pub local : Job → ℕ → ℕ → Local
-local j zero o = initial j o
-local j (suc k) o = pick (same (actor j (suc k)) o) (local-after o (memory j k) (local j k o)) (local j k o)
+use Rattle.machine.specs.Table.{row-of}
+use Rattle.machine.specs.Run.{ended, row-after}
+use Rattle.machine.specs.Journal.{Answer, idle, acted, note, event-of, answer-of}
+use Hands.{place-of, InHand, in-hand, rests, moves, actor-resting, actor-moving, local-own, local-other}
+unfoldable pub use Locals.*
 
 -- step k + 1 is idle
 pub record Idles (j : Job) (k : ℕ) : Type 0 where
@@ -64,6 +35,43 @@ pub record Acts (j : Job) (k o : ℕ) : Type 0 where
   pub event : note j (suc k) .event ≡ event-of (row-of (local j k o .row) .access) (reaches o (memory j k) (local j k o) .outcome) (reaches o (memory j k) (local j k o) .registers)
   pub answer : note j (suc k) .answer ≡ answer-of (local j (suc k) o .row) (local j (suc k) o .registers)
 
+module _ (j : Job) (k o : ℕ) (h : InHand j k (j .entry (suc k)) o) where
+  idles : j .count < o → Idles j k
+  unfolding memory idle
+  idles past =
+      let nobody : actor j (suc k) ≡ 0 = actor-resting j k o h past in
+      record {
+        nobody = nobody;
+        memory-kept = ap (λ s. s .memory) (rests j k o h past .0);
+        locals-kept = λ q n. local-other j k q (λ e. n (sym e ∙ nobody));
+        event = ap (λ x. x .event) (rests j k o h past .1);
+        answer = ap (λ x. x .answer) (rests j k o h past .1);
+      }
+
+  acts : o ≤ j .count → Acts j k o
+  unfolding memory acted place-of row-after local-after reaches
+  acts to-count =
+      let actor-is : actor j (suc k) ≡ o = actor-moving j k o h to-count in
+      let own-after : local j (suc k) o ≡ local-after o (memory j k) (local j k o) = local-own j k o actor-is in
+      record {
+        from-one = h .from-one;
+        to-count = to-count;
+        going = h .going;
+        actor-is = actor-is;
+        memory-after = ap (λ s. s .memory) (moves j k o h to-count .0);
+        own-after = own-after;
+        others-kept = λ q n. local-other j k q (λ e. n (sym e ∙ actor-is));
+        event = ap (λ x. x .event) (moves j k o h to-count .1);
+        answer = ap (λ x. x .answer) (moves j k o h to-count .1) ∙ ap (λ l. answer-of (l .row) (l .registers)) (sym own-after);
+      }
+
 -- every step is idle or an operation's
 pub step-made : (j : Job) (k : ℕ) → Idles j k ⊎ ((o : ℕ) × Acts j k o)
-step-made j k = ?
+step-made j k = by-count (in-hand j k (j .entry (suc k)))
+  where
+    by-rest : (o : ℕ) → InHand j k (j .entry (suc k)) o → (o ≤ j .count) ⊎ (j .count < o) → Idles j k ⊎ ((o : ℕ) × Acts j k o)
+    by-rest o h (inl to-count) = inr (o, acts j k o h to-count)
+    by-rest o h (inr past) = inl (idles j k o h past)
+
+    by-count : ((o : ℕ) × InHand j k (j .entry (suc k)) o) → Idles j k ⊎ ((o : ℕ) × Acts j k o)
+    by-count held = by-rest (held .0) (held .1) (compare (held .0) (j .count))
