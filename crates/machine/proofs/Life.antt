@@ -161,8 +161,8 @@ LifeAt Empty r d = FoundEmpty d × EndedWith Answer.empty d
 
 module _ (j : Job) where
   -- an operation is on a row of its object
-  pub of-object : (k o : ℕ) → OfObject (j .object) (local j k o .row)
-  of-object k o = ?
+  pub of-object : (k o : ℕ) → Operation j o → OfObject (j .object) (local j k o .row)
+  of-object k o op = ?
 
   -- what it has done is what its row says
   pub life : (k o : ℕ) → Operation j o → LifeAt (local j k o .row) (local j k o .registers) (deeds j k o)

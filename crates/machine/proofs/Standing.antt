@@ -55,4 +55,4 @@ standing-at object ItemT r d x l = has-item (r .t) (took-of (l .0)) (l .1)
 standing-at object Empty r d x l = is-empty (l .0) (l .1)
 
 pub standing : (j : Job) (k o : ℕ) → Operation j o → Standing (j .object) (deeds j k o)
-standing j k o op = standing-at (j .object) (local j k o .row) (local j k o .registers) (deeds j k o) (of-object j k o) (life j k o op)
+standing j k o op = standing-at (j .object) (local j k o .row) (local j k o .registers) (deeds j k o) (of-object j k o op) (life j k o op)

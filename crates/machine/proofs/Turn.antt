@@ -2,11 +2,12 @@
 -- by these cases and never open the table or an access. Assumes nothing.
 use mathlib.Core.Path.{_≡_}
 use mathlib.Core.Logic.{_≢_}
-use Prim.Native.Nat.{ℕ}
+use Prim.Native.Nat.{ℕ, suc}
 use mathlib.Core.Bool.{Bool, true, false, true≢false}
 use Rattle.basics.specs.Choice.{pick, same}
 use Rattle.basics.specs.Maps.{upd}
 use Rattle.basics.proofs.Choice.{test-elim, same-equal, same-unequal}
+use Rattle.job.specs.Job.{Job}
 use Rattle.machine.specs.declared.Row.{Row}
 use Rattle.machine.specs.declared.Row.the-variants.{Q1, Q2, Q3, Q4, Q5, T1, T2, T3, T4, T5, P1, P2, P3, P4, R1, R2, R3, R4, R5, Done, ItemN, ItemT, Empty}
 use Rattle.machine.specs.declared.Event.{Event}
@@ -17,8 +18,8 @@ use Rattle.machine.specs.Memory.{Memory, set-from-to, yes-if, with-head,
 use Rattle.machine.specs.Table.{row, table, position, row-of, successor}
 use Rattle.machine.specs.Access.{Registers, Reached, have-read, have-set, access}
 use Rattle.machine.specs.Run.{ended, reach}
-use Rattle.machine.specs.Journal.{Answer, event-of, answer-of}
-use Rattle.machine.proofs.Operations.{Local, reaches, local-after}
+use Rattle.machine.specs.Journal.{Answer, note, event-of, answer-of}
+use Rattle.machine.proofs.Operations.{Local, memory, local, reaches, local-after, Acts}
 
 -- an operation at a row, with registers h, t, n
 abbrev pub at-row : Row → ℕ → ℕ → ℕ → Local
@@ -114,3 +115,7 @@ module _ (o : ℕ) (m : Memory) (h t n : ℕ) where
 pub turn : (o : ℕ) (m : Memory) (l : Local) → ended (l .row) ≡ false → Turn o m l (reaches o m l .memory) (local-after o m l) (event-of (row-of (l .row) .access) (reaches o m l .outcome) (reaches o m l .registers)) (answer-of (local-after o m l .row) (local-after o m l .registers))
 unfolding TurnTo reaches local-after
 turn o m l going = turn-at o m (l .registers .h) (l .registers .t) (l .registers .n) (l .row) going
+
+-- the step of the operation that acts is such a turn
+pub turned : (j : Job) (k o : ℕ) → Acts j k o → Turn o (memory j k) (local j k o) (memory j (suc k)) (local j (suc k) o) (note j (suc k) .event) (note j (suc k) .answer)
+turned j k o a = rw (a .memory-after, a .event, a .answer, a .own-after) (turn o (memory j k) (local j k o) (a .going))
