@@ -2,3 +2,4 @@
 pub mod Nodes
 pub mod Raised
 pub mod Rows
+pub mod Steps
