@@ -1,1 +1,5 @@
 -- The queue meets the laws. Assumes nothing.
+pub mod Chain
+pub mod Order
+pub mod Memory
+pub mod Keeps

@@ -1,0 +1,56 @@
+-- The queue's memory with the steps that linked its nodes and moved Head to them: what always holds of it, the four changes that a step
+-- makes to it, and that they keep it. Assumes nothing.
+use mathlib.Core.Path.{_≡_, refl, sym, ap, subst, _∙_}
+use mathlib.Core.Logic.{_≢_, _⊎_, inl, inr}
+use Prim.Native.Nat.{ℕ, zero, suc, _≤_, _<_}
+use mathlib.Core.List.{List, [], _∷_, _++_}
+use native.Mathlib.Omega.{arith}
+use Rattle.basics.specs.Maps.{upd}
+use Rattle.basics.proofs.Choice.{split}
+use Rattle.basics.proofs.Maps.{upd-here, upd-there, upd-elim}
+use Rattle.machine.specs.declared.Event.{Event}
+use Rattle.machine.specs.declared.Event.the-variants.{Quiet, Round, Linked, Moved, Late, Raised}
+use Rattle.machine.proofs.Queue.Chain.{Chain, Chain.ends, Chain.goes}
+use Rattle.machine.proofs.Queue.Order.{IsLinked, Order, CanLink}
+
+-- Head, Tail and the nexts; the step that linked a node, and the first that moved Head to it (0: none)
+pub record Now : Type 0 where
+  pub head : ℕ
+  pub tail : ℕ
+  pub next : ℕ → ℕ
+  pub born : ℕ → ℕ
+  pub moved : ℕ → ℕ
+
+-- where Head and Tail stand among the nodes
+pub record Ends (k : ℕ) (v : Now) : Type 0 where
+  pub head-linked : IsLinked (v .born) (v .head)
+  pub tail-linked : IsLinked (v .born) (v .tail)
+  pub head-to-tail : v .born (v .head) ≤ v .born (v .tail)
+  -- Head has moved to the nodes born up to it, and to no others
+  pub moved-linked : (i : ℕ) → v .moved i ≢ 0 → v .born i ≢ 0
+  pub moved-behind : (i : ℕ) → v .moved i ≢ 0 → v .born i ≤ v .born (v .head)
+  pub behind-moved : (i : ℕ) → v .born i ≢ 0 → v .born i ≤ v .born (v .head) → v .moved i ≢ 0
+  pub moved-by-now : (i : ℕ) → v .moved i ≤ k
+
+-- after k steps on `count` operations
+pub record Sound (count k : ℕ) (v : Now) : Type 0 where
+  pub order : Order count k (v .next) (v .born)
+  pub ends : Ends k v
+  pub contents : List ℕ
+  pub chain : Chain (v .next) (v .head) contents
+
+-- an event of a step that leaves memory and its stamps as they are
+pub data Still : Event → Type 0 where
+  quiet : Still Quiet
+  round : Still Round
+  late : {n : ℕ} → Still (Late n)
+
+-- step k + 1, by operation o, with its event
+pub data Change (count k o : ℕ) (v : Now) : Event → Now → Type 0 where
+  stays : {e : Event} → Still e → Change count k o v e v
+  -- Q3 links o's node behind the last one
+  links : {t : ℕ} → CanLink count (v .next) (v .born) t o → Change count k o v Linked (record { head = v .head; tail = v .tail; next = upd (v .next) t o; born = upd (v .born) o (suc k); moved = v .moved })
+  -- Q4, Q5 and T4 move Tail to its next
+  tail-moves : {n : ℕ} → v .next (v .tail) ≡ n → n ≢ 0 → Change count k o v Quiet (record { head = v .head; tail = n; next = v .next; born = v .born; moved = v .moved })
+  -- T5 moves Head to its next
+  head-moves : {n : ℕ} → v .next (v .head) ≡ n → n ≢ 0 → v .born n ≤ v .born (v .tail) → Change count k o v (Moved n) (record { head = n; tail = v .tail; next = v .next; born = v .born; moved = upd (v .moved) n (suc k) })
