@@ -3,3 +3,5 @@ pub mod Chain
 pub mod Order
 pub mod Memory
 pub mod Keeps
+pub mod Grows
+pub mod Rows
