@@ -3,3 +3,4 @@ pub mod Nodes
 pub mod Raised
 pub mod Rows
 pub mod Steps
+pub mod Keeps
