@@ -3,6 +3,7 @@ pub mod Lists
 pub mod Searches
 pub mod Operations
 pub mod Turn
+pub mod Stamps
 pub mod Bounds
 pub mod Life
 pub mod Standing
