@@ -5,3 +5,4 @@ pub mod Memory
 pub mod Keeps
 pub mod Grows
 pub mod Rows
+pub mod Steps
