@@ -4,3 +4,4 @@ pub mod Raised
 pub mod Rows
 pub mod Steps
 pub mod Keeps
+pub mod Chain
