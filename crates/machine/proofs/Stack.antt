@@ -5,3 +5,5 @@ pub mod Rows
 pub mod Steps
 pub mod Keeps
 pub mod Chain
+pub mod Deeds
+pub mod Takers
