@@ -23,7 +23,7 @@ use Rattle.machine.specs.Explained.{Operation}
 use Rattle.machine.proofs.Lists.{sift-in, sift-out, numbers-in, numbers-out}
 use Rattle.machine.proofs.Searches.{earliest-meets, latest-meets, largest-attained}
 use Rattle.machine.proofs.Life.{deeds, links-once, joins-once}
-use Rattle.machine.proofs.Standing.{Standing, standing}
+use Rattle.machine.proofs.Standing.{standing, taken-not-linked, empty-found}
 
 -- an event at which no line stands
 pub data Lineless : Event → Type 0 where
@@ -166,50 +166,23 @@ lined j k s o line low e = go (effected j k o)
     go (by-empty l t a h) = at-empty a (at h) (subst (λ a. note j a .event ≡ Round) (at h) (start-step j k o (some (at h)) .event))
     go (by-none l t a h) = let z : _≡_ {A = ℕ} 0 1 = cc in absurd (omega arith)
 
--- who took an item has linked nothing
-pub taken-not-linked : (j : Job) (k o : ℕ) → Operation j o → taken j k o ≢ 0 → link j k o ≡ 0
-unfolding deeds
-taken-not-linked j k o op t = go (standing j k o op)
-  where
-    go : Standing (j .object) (deeds j k o) → link j k o ≡ 0
-    go (Standing.going g) = g .no-link
-    go (Standing.has-linked l e) = absurd (t (l .not-taken))
-    go (Standing.is-done l e) = absurd (t (l .not-taken))
-    go (Standing.has-joined q item h e) = h .no-link
-    go (Standing.has-item item h e) = h .no-link
-    go (Standing.is-empty h e) = h .no-link
-
--- who answers empty has linked nothing and taken nothing
-pub empty-did-nothing : (j : Job) (k o : ℕ) → Operation j o → answer j k o ≡ Answer.empty → (link j k o ≡ 0) × (taken j k o ≡ 0)
-unfolding deeds
-empty-did-nothing j k o op a = go (standing j k o op)
-  where
-    other : {b : Answer} → answer j k o ≡ b → b ≢ Answer.empty → ⊥
-    other e n = n (sym e ∙ a)
-
-    go : Standing (j .object) (deeds j k o) → (link j k o ≡ 0) × (taken j k o ≡ 0)
-    go (Standing.going g) = (g .no-link, g .not-taken)
-    go (Standing.has-linked l e) = let b : answer j k o ≡ Answer.none = e .no-answer in let z : _≡_ {A = ℕ} 0 1 = cc in absurd (omega arith)
-    go (Standing.is-done l e) = let b : answer j k o ≡ Answer.done = e .answered in let z : _≡_ {A = ℕ} 0 1 = cc in absurd (omega arith)
-    go (Standing.has-joined q item h e) = let b : answer j k o ≡ Answer.none = e .no-answer in let z : _≡_ {A = ℕ} 0 1 = cc in absurd (omega arith)
-    go (Standing.has-item item h e) = let b : answer j k o ≡ Answer.item item = e .answered in let z : _≡_ {A = ℕ} 0 1 = cc in absurd (omega arith)
-    go (Standing.is-empty h e) = (h .no-link, h .not-taken)
-
 pub effect-of-taker : (j : Job) (k o : ℕ) → Operation j o → taken j k o ≢ 0 → effect j k o ≡ stands (takes-at (j .object) j k (taken j k o)) (takes (taken j k o) (takers j k (taken j k o)))
+unfolding deeds
 effect-of-taker j k o op t = go (effected j k o)
   where
     go : Effected j k o → effect j k o ≡ stands (takes-at (j .object) j k (taken j k o)) (takes (taken j k o) (takers j k (taken j k o)))
-    go (by-put l h) = absurd (l (taken-not-linked j k o op t))
+    go (by-put l h) = absurd (l (taken-not-linked (standing j k o op) t))
     go (by-take l s h) = h
     go (by-empty l z a h) = absurd (t z)
     go (by-none l z a h) = absurd (t z)
 
 pub effect-of-empty : (j : Job) (k o : ℕ) → Operation j o → answer j k o ≡ Answer.empty → effect j k o ≡ stands (start j k o) (empty o)
+unfolding deeds
 effect-of-empty j k o op a = go (effected j k o)
   where
     go : Effected j k o → effect j k o ≡ stands (start j k o) (empty o)
-    go (by-put l h) = absurd (l (empty-did-nothing j k o op a .0))
-    go (by-take l t h) = absurd (t (empty-did-nothing j k o op a .1))
+    go (by-put l h) = absurd (l (empty-found (standing j k o op) a .no-link))
+    go (by-take l t h) = absurd (t (empty-found (standing j k o op) a .not-taken))
     go (by-empty l z b h) = h
     go (by-none l z b h) = absurd (b a)
 
@@ -223,7 +196,7 @@ effect-of-put j k o some = go (effected j k o)
     go (by-none l t a h) = absurd (some l)
 
 -- an event at which a line may stand
-data MayLine : Event → Type 0 where
+pub data MayLine : Event → Type 0 where
   linked : MayLine Linked
   moved : {n : ℕ} → MayLine (Moved n)
   round : MayLine Round
@@ -233,6 +206,10 @@ lined-event j k s o (at-link e) = subst MayLine (sym e) linked
 lined-event j k s o (at-move n q e) = subst MayLine (sym e) moved
 lined-event j k s o (at-top q t h e) = subst MayLine (sym e) round
 lined-event j k s o (at-empty a h e) = subst MayLine (sym e) round
+
+-- an effect stands at such an event
+pub effect-event : (j : Job) (k s o : ℕ) (line : Line) → 1 ≤ s → effect j k o ≡ stands s line → MayLine (note j s .event)
+effect-event j k s o line low e = lined-event j k s o (lined j k s o line low e)
 
 lineless-no-line : {e : Event} → Lineless e → MayLine e → ⊥
 lineless-no-line quiet m = elim m [ ]
@@ -252,7 +229,7 @@ lined-round j k s o r (at-empty a h e) = bare a h
 
 module _ (j : Job) (k s : ℕ) (from-one : 1 ≤ s) (to-k : s ≤ k) where
   pub line-of-none : Lineless (note j s .event) → line-at j k s ≡ []
-  line-of-none e = line-without-effect j k s (λ line h. lineless-no-line e (lined-event j k s (note j s .by) (lined j k s (note j s .by) line from-one h)))
+  line-of-none e = line-without-effect j k s (λ line h. lineless-no-line e (effect-event j k s (note j s .by) line from-one h))
 
   pub line-of-link : (o : ℕ) → Operation j o → note j s .by ≡ o → note j s .event ≡ Linked → line-at j k s ≡ record { step = s; line = put o } ∷ []
   unfolding links made is-linked

