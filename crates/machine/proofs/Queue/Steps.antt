@@ -120,85 +120,62 @@ move-taken some e early j =
       to-join = omega arith;
     }
 
-module _ {count k o : ℕ} (some : o ≢ 0) (known : o ≤ count) (front born moved : ℕ → ℕ) where
-  -- which change a step is
-  pub turn-changes : {m m′ : Memory} {l l′ : Local} {e : Event} {a : Answer} (start join : ℕ) (d : Deeds) → Turn o m l m′ l′ e a → Knows front o (l .row) (l .registers) start join (now-of m born moved) → LifeAt (l .row) (l .registers) d → born o ≡ d .link → Change count k o (now-of m born moved) e (now-of m′ (born-after e o (suc k) born) (moved-after e (suc k) moved))
-  unfolding with-head with-tail with-next
-  turn-changes start join d q1 p life f = stays quiet
-  turn-changes start join d (q2-last z) p life f = stays quiet
-  turn-changes start join d (q2-more z) p life f = stays quiet
-  turn-changes start join d (q3-links z) p life f =
-      links (record { t-linked = p; t-last = z; some = some; known = known; unborn = f ∙ life .no-link })
-  turn-changes start join d (q3-fails z) p life f = stays quiet
-  turn-changes {m} start join d (q4-moves z) p life f = tail-moves (ap (m .next) z ∙ p .next-is) (p .some-node)
-  turn-changes start join d (q4-stays z) p life f = stays quiet
-  turn-changes {m} start join d (q5-moves z) p life f = tail-moves (ap (m .next) z ∙ p .next-is) (p .some-node)
-  turn-changes start join d (q5-stays z) p life f = stays quiet
-  turn-changes start join d t1 p life f = stays round
-  turn-changes start join d t2 p life f = stays quiet
-  turn-changes start join d (t3-empty y z) p life f = stays quiet
-  turn-changes start join d (t3-helps y z) p life f = stays quiet
-  turn-changes start join d (t3-goes z) p life f = stays quiet
-  turn-changes {m} start join d (t4-moves z) p life f = tail-moves (ap (m .next) z ∙ p .next-is) (p .some-node)
-  turn-changes start join d (t4-stays z) p life f = stays quiet
-  turn-changes {m} start join d (t5-moves z) p life f = head-moves (ap (m .next) z ∙ p .1 .next-is) (p .1 .some-node) (p .2)
-  turn-changes start join d (t5-late z) p life f = stays late
-  turn-changes start join d (p1-none z) p life f = absurd p
-  turn-changes start join d (p1-some z) p life f = absurd p
-  turn-changes start join d (p2-clear z) p life f = absurd p
-  turn-changes start join d (p2-raised z) p life f = absurd p
-  turn-changes start join d (p3-pushes z) p life f = absurd p
-  turn-changes start join d (p3-fails z) p life f = absurd p
-  turn-changes start join d (p4-moves z) p life f = absurd p
-  turn-changes start join d (p4-stays z) p life f = absurd p
-  turn-changes start join d (r1-none z) p life f = absurd p
-  turn-changes start join d (r1-some z) p life f = absurd p
-  turn-changes start join d (r2-clear z) p life f = absurd p
-  turn-changes start join d (r2-raised z) p life f = absurd p
-  turn-changes start join d r3 p life f = absurd p
-  turn-changes start join d (r4-moves z) p life f = absurd p
-  turn-changes start join d (r4-stays z) p life f = absurd p
-  turn-changes start join d (r5-moves z) p life f = absurd p
-  turn-changes start join d (r5-stays z) p life f = absurd p
+-- before the step: what holds of memory, what the operation knows and what it has done
+pub record Before (count k o : ℕ) (front born moved : ℕ → ℕ) (m : Memory) (l : Local) (start join : ℕ) (d : Deeds) : Type 0 where
+  pub sound : Sound count k (now-of m born moved)
+  pub knows : Knows front o (l .row) (l .registers) start join (now-of m born moved)
+  pub life : LifeAt (l .row) (l .registers) d
+  pub born-is : born o ≡ d .link
+  pub started : start ≤ k
 
-  -- what the operation knows at its new row, whose round and joining step are the new ones
-  pub turn-knows : {m m′ : Memory} {l l′ : Local} {e : Event} {a : Answer} (start join start′ join′ : ℕ) (d : Deeds) → Turn o m l m′ l′ e a → Sound count k (now-of m born moved) → Knows front o (l .row) (l .registers) start join (now-of m born moved) → LifeAt (l .row) (l .registers) d → front (suc k) ≡ m′ .next (m′ .head) → start ≤ k → start′ ≡ start-after e (suc k) start → (d .join ≡ 0 → item-of e ≢ 0 → join′ ≡ suc k) → Knows front o (l′ .row) (l′ .registers) start′ join′ (now-of m′ (born-after e o (suc k) born) (moved-after e (suc k) moved))
+-- after it: the next of Head, and the last round and the joining step of the operation
+pub record After (k : ℕ) (front : ℕ → ℕ) (m : Memory) (e : Event) (d : Deeds) (start start′ join′ : ℕ) : Type 0 where
+  pub front-is : front (suc k) ≡ m .next (m .head)
+  pub start-is : start′ ≡ start-after e (suc k) start
+  pub join-is : d .join ≡ 0 → item-of e ≢ 0 → join′ ≡ suc k
+
+module _ {count k o : ℕ} (some : o ≢ 0) (known : o ≤ count) {front born moved : ℕ → ℕ} where
+  -- which change a step is, and what the operation then knows
+  pub turn-goes : {m m′ : Memory} {l l′ : Local} {e : Event} {a : Answer} {start join start′ join′ : ℕ} {d : Deeds} → Turn o m l m′ l′ e a → Before count k o front born moved m l start join d → After k front m′ e d start start′ join′ → Change count k o (now-of m born moved) e (now-of m′ (born-after e o (suc k) born) (moved-after e (suc k) moved)) × Knows front o (l′ .row) (l′ .registers) start′ join′ (now-of m′ (born-after e o (suc k) born) (moved-after e (suc k) moved))
   unfolding with-head with-tail with-next item-of
-  turn-knows start join start′ join′ d q1 s p life f early b g = s .ends .tail-linked
-  turn-knows start join start′ join′ d (q2-last z) s p life f early b g = p
-  turn-knows start join start′ join′ d (q2-more z) s p life f early b g = record { next-is = refl; some-node = z }
-  turn-knows {m} start join start′ join′ d (q3-links {t = t} z) s p life f early b g = record { next-is = upd-here (m .next) t o; some-node = some }
-  turn-knows start join start′ join′ d (q3-fails z) s p life f early b g = tt
-  turn-knows start join start′ join′ d (q4-moves z) s p life f early b g = tt
-  turn-knows start join start′ join′ d (q4-stays z) s p life f early b g = tt
-  turn-knows start join start′ join′ d (q5-moves z) s p life f early b g = tt
-  turn-knows start join start′ join′ d (q5-stays z) s p life f early b g = tt
-  turn-knows {m} start join start′ join′ d t1 s p life f early b g = subst (λ x. Rows.Round front (m .head) x (now-of m born moved)) (sym b) (round-begins s front f)
-  turn-knows {m} start join start′ join′ d (t2 {h = h}) s p life f early b g = subst (λ x. Rows.Round front h x (now-of m born moved) × Between h (m .tail) (now-of m born moved)) (sym b) (p, tail-between s p)
-  turn-knows start join start′ join′ d (t3-empty y z) s p life f early b g = ap front b ∙ p .0 .bare-then z
-  turn-knows {m} start join start′ join′ d (t3-helps y z) s p life f early b g = record { next-is = ap (m .next) (sym y); some-node = z }
-  turn-knows {m} start join start′ join′ d (t3-goes {h = h} z) s p life f early b g =
-      (subst (λ x. Rows.Round front h x (now-of m born moved)) (sym b) (p .0), record { next-is = refl; some-node = has-next s (p .0) (p .1) z }, next-to-tail s (p .0) (p .1) z)
-  turn-knows start join start′ join′ d (t4-moves z) s p life f early b g = tt
-  turn-knows start join start′ join′ d (t4-stays z) s p life f early b g = tt
-  turn-knows start join start′ join′ d (t5-moves {n = n} z) s p life f early b g =
-      move-taken (p .1 .some-node) (upd-here moved n (suc k)) (omega (arith, b)) (g (life .going .no-join) (p .1 .some-node))
-  turn-knows {m} start join start′ join′ d (t5-late {n = n} z) s p life f early b g =
-      subst (λ x. Taken n x join′ (now-of m born moved)) (sym b) (late-taken s (p .0) (p .1) z (g (life .going .no-join) (p .1 .some-node)))
-  turn-knows start join start′ join′ d (p1-none z) s p life f early b g = absurd p
-  turn-knows start join start′ join′ d (p1-some z) s p life f early b g = absurd p
-  turn-knows start join start′ join′ d (p2-clear z) s p life f early b g = absurd p
-  turn-knows start join start′ join′ d (p2-raised z) s p life f early b g = absurd p
-  turn-knows start join start′ join′ d (p3-pushes z) s p life f early b g = absurd p
-  turn-knows start join start′ join′ d (p3-fails z) s p life f early b g = absurd p
-  turn-knows start join start′ join′ d (p4-moves z) s p life f early b g = absurd p
-  turn-knows start join start′ join′ d (p4-stays z) s p life f early b g = absurd p
-  turn-knows start join start′ join′ d (r1-none z) s p life f early b g = absurd p
-  turn-knows start join start′ join′ d (r1-some z) s p life f early b g = absurd p
-  turn-knows start join start′ join′ d (r2-clear z) s p life f early b g = absurd p
-  turn-knows start join start′ join′ d (r2-raised z) s p life f early b g = absurd p
-  turn-knows start join start′ join′ d r3 s p life f early b g = absurd p
-  turn-knows start join start′ join′ d (r4-moves z) s p life f early b g = absurd p
-  turn-knows start join start′ join′ d (r4-stays z) s p life f early b g = absurd p
-  turn-knows start join start′ join′ d (r5-moves z) s p life f early b g = absurd p
-  turn-knows start join start′ join′ d (r5-stays z) s p life f early b g = absurd p
+  turn-goes q1 b c = (stays quiet, b .sound .ends .tail-linked)
+  turn-goes (q2-last z) b c = (stays quiet, b .knows)
+  turn-goes (q2-more z) b c = (stays quiet, record { next-is = refl; some-node = z })
+  turn-goes {m} (q3-links {t = t} z) b c =
+      (links (record { t-linked = b .knows; t-last = z; some = some; known = known; unborn = b .born-is ∙ b .life .no-link }), record { next-is = upd-here (m .next) t o; some-node = some })
+  turn-goes (q3-fails z) b c = (stays quiet, tt)
+  turn-goes {m} (q4-moves z) b c = (tail-moves (ap (m .next) z ∙ b .knows .next-is) (b .knows .some-node), tt)
+  turn-goes (q4-stays z) b c = (stays quiet, tt)
+  turn-goes {m} (q5-moves z) b c = (tail-moves (ap (m .next) z ∙ b .knows .next-is) (b .knows .some-node), tt)
+  turn-goes (q5-stays z) b c = (stays quiet, tt)
+  turn-goes {m} t1 b c =
+      (stays round, subst (λ x. Rows.Round front (m .head) x (now-of m born moved)) (sym (c .start-is)) (round-begins (b .sound) front (c .front-is)))
+  turn-goes {m} (t2 {h = h}) b c =
+      (stays quiet, (subst (λ x. Rows.Round front h x (now-of m born moved)) (sym (c .start-is)) (b .knows), tail-between (b .sound) (b .knows)))
+  turn-goes (t3-empty y z) b c = (stays quiet, ap front (c .start-is) ∙ b .knows .0 .bare-then z)
+  turn-goes {m} (t3-helps y z) b c = (stays quiet, record { next-is = ap (m .next) (sym y); some-node = z })
+  turn-goes {m} (t3-goes {h = h} z) b c =
+      (stays quiet, (subst (λ x. Rows.Round front h x (now-of m born moved)) (sym (c .start-is)) (b .knows .0), record { next-is = refl; some-node = has-next (b .sound) (b .knows .0) (b .knows .1) z }, next-to-tail (b .sound) (b .knows .0) (b .knows .1) z))
+  turn-goes {m} (t4-moves z) b c = (tail-moves (ap (m .next) z ∙ b .knows .next-is) (b .knows .some-node), tt)
+  turn-goes (t4-stays z) b c = (stays quiet, tt)
+  turn-goes {m} (t5-moves {n = n} z) b c =
+      (head-moves (ap (m .next) z ∙ b .knows .1 .next-is) (b .knows .1 .some-node) (b .knows .2), move-taken (b .knows .1 .some-node) (upd-here moved n (suc k)) (omega (arith, c .start-is, b .started)) (c .join-is (b .life .going .no-join) (b .knows .1 .some-node)))
+  turn-goes {m} {join′} (t5-late {n = n} z) b c =
+      (stays late, subst (λ x. Taken n x join′ (now-of m born moved)) (sym (c .start-is)) (late-taken (b .sound) (b .knows .0) (b .knows .1) z (c .join-is (b .life .going .no-join) (b .knows .1 .some-node))))
+  turn-goes (p1-none z) b c = absurd (b .knows)
+  turn-goes (p1-some z) b c = absurd (b .knows)
+  turn-goes (p2-clear z) b c = absurd (b .knows)
+  turn-goes (p2-raised z) b c = absurd (b .knows)
+  turn-goes (p3-pushes z) b c = absurd (b .knows)
+  turn-goes (p3-fails z) b c = absurd (b .knows)
+  turn-goes (p4-moves z) b c = absurd (b .knows)
+  turn-goes (p4-stays z) b c = absurd (b .knows)
+  turn-goes (r1-none z) b c = absurd (b .knows)
+  turn-goes (r1-some z) b c = absurd (b .knows)
+  turn-goes (r2-clear z) b c = absurd (b .knows)
+  turn-goes (r2-raised z) b c = absurd (b .knows)
+  turn-goes r3 b c = absurd (b .knows)
+  turn-goes (r4-moves z) b c = absurd (b .knows)
+  turn-goes (r4-stays z) b c = absurd (b .knows)
+  turn-goes (r5-moves z) b c = absurd (b .knows)
+  turn-goes (r5-stays z) b c = absurd (b .knows)
