@@ -2,11 +2,11 @@
 -- above this file knows of processes. Assumes nothing.
 pub mod Locals
 pub mod Hands
-use mathlib.Core.Path.{_≡_, sym, ap, _∙_}
+use mathlib.Core.Path.{_≡_, sym, ap, subst, _∙_}
 use mathlib.Core.Logic.{_≢_, _⊎_, inl, inr}
-use Prim.Native.Nat.{ℕ, suc, _≤_, _<_}
+use Prim.Native.Nat.{ℕ, zero, suc, _≤_, _<_}
 use mathlib.Core.Bool.{false}
-use Rattle.basics.proofs.Choice.{compare}
+use Rattle.basics.proofs.Choice.{split, compare}
 use Rattle.job.specs.Job.{Job}
 use Rattle.machine.specs.declared.Event.the-variants.{Quiet}
 use Rattle.machine.specs.Table.{row-of}
@@ -75,3 +75,16 @@ step-made j k = by-count (in-hand j k (j .entry (suc k)))
 
     by-count : ((o : ℕ) × InHand j k (j .entry (suc k)) o) → Idles j k ⊎ ((o : ℕ) × Acts j k o)
     by-count held = by-rest (held .0) (held .1) (compare (held .0) (j .count))
+
+-- what holds of an operation at first, and is kept by the steps of others and by its own, holds after any number of steps
+pub each-step : (j : Job) (o : ℕ) → o ≢ 0 → (P : ℕ → Type 0) → P 0 → ((k : ℕ) → actor j (suc k) ≢ o → P k → P (suc k)) → ((k : ℕ) → Acts j k o → P k → P (suc k)) → (k : ℕ) → P k
+each-step j o some P at-first others own zero = at-first
+each-step j o some P at-first others own (suc k) = by-step (step-made j k) (each-step j o some P at-first others own k)
+  where
+    by-actor : (q : ℕ) → Acts j k q → (q ≡ o) ⊎ (q ≢ o) → P k → P (suc k)
+    by-actor q a (inl e) p = own k (subst (Acts j k) e a) p
+    by-actor q a (inr n) p = others k (λ e. n (sym (a .actor-is) ∙ e)) p
+
+    by-step : Idles j k ⊎ ((q : ℕ) × Acts j k q) → P k → P (suc k)
+    by-step (inl i) p = others k (λ e. some (sym e ∙ i .nobody)) p
+    by-step (inr a) p = by-actor (a .0) (a .1) (split (a .0) o) p

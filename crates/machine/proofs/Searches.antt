@@ -114,6 +114,16 @@ module _ (f : ℕ → Bool) where
       some-found : earliest f k ≢ 0
       some-found z = found-by (sym (earliest-stays s k high found-by) ∙ z)
 
+  -- what was found is found by any search that gets as far
+  pub earliest-found-by : (k l : ℕ) → earliest f k ≢ 0 → earliest f k ≤ l → earliest f l ≢ 0
+  earliest-found-by k l n h = earliest-least l (earliest f k) (earliest-meets k n) (omega arith) h .0
+
+  -- a search that finds step s + 1 and nothing before it finds that step for ever
+  pub earliest-once : (k s : ℕ) → f (suc s) ≡ true → earliest f s ≡ 0 → suc s ≤ k → earliest f k ≡ suc s
+  earliest-once k s t z high =
+      let here : earliest f (suc s) ≡ suc s = earliest-new s z t in
+      earliest-stays (suc s) k high (λ y. (let c : suc s ≡ 0 = sym here ∙ y in omega arith)) ∙ here
+
   -- a search that fails up to k and succeeds up to l finds a step after k
   pub earliest-after : (k l : ℕ) → earliest f k ≡ 0 → earliest f l ≢ 0 → k < earliest f l
   earliest-after k l z n = go (compare (earliest f l) k)

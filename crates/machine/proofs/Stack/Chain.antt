@@ -3,23 +3,21 @@
 use mathlib.Core.Path.{_≡_, refl, sym, ap, subst, subst₂, _∙_}
 use mathlib.Core.Logic.{_≢_, _⊎_, inl, inr}
 use Prim.Native.Nat.{ℕ, zero, suc, _≤_, _<_}
-use mathlib.Core.Bool.{Bool, true, false, _&&_}
 use mathlib.Core.List.{List, [], _∷_, List·Memᴰ, List·Memᴰ·not-nil, List·Memᴰ·cases-cons}
 use mathlib.Core.List.List·Memᴰ.{List·Memᴰ·head, List·Memᴰ·tail}
 use native.Mathlib.Omega.{arith}
 use Rattle.basics.specs.Maps.{upd}
-use Rattle.basics.proofs.Choice.{equal-same}
 use Rattle.basics.proofs.Maps.{upd-here}
 use Rattle.job.specs.declared.Kind.the-variants.{Stack}
 use Rattle.job.specs.Job.{Job}
 use Rattle.machine.specs.Memory.{fresh-memory}
 use Rattle.machine.specs.Run.{state-after, fresh-state}
-use Rattle.machine.specs.Journal.{note, is-linked, made, links, link}
+use Rattle.machine.specs.Journal.{link}
 use Rattle.machine.specs.Left.{walk}
 use Rattle.machine.specs.Explained.{Operation}
 use Rattle.machine.proofs.Lists.{Distinct, distinct-at-most}
-use Rattle.machine.proofs.Searches.{earliest-least, earliest-stays}
-use Rattle.machine.proofs.Operations.{memory}
+use Rattle.machine.proofs.Stamps.{link-stays, link-new}
+use Rattle.machine.proofs.Operations.{memory, actor}
 use Rattle.machine.proofs.Stack.Nodes.{Nodes, end, node, nodes-unique, nodes-none, nodes-first, nodes-kept, nodes-walk}
 use Rattle.machine.proofs.Stack.Steps.{Happens, Rests, Pushes, Pops, Raises, Begins, rests, pushes, pops, raises, begins}
 use Rattle.machine.proofs.Stack.Keeps.{Keeps, keeps, happens}
@@ -35,17 +33,13 @@ pub record Chain (j : Job) (k : ℕ) : Type 0 where
   pub distinct : Distinct list
   pub puts : (i : ℕ) → List·Memᴰ i list → Put j k i
 
-pub link-stays : (j : Job) (k l i : ℕ) → k ≤ l → link j k i ≢ 0 → link j l i ≡ link j k i
-unfolding link
-link-stays j k l i h n = earliest-stays (links j i) k l h n
-
 put-stays : {j : Job} {k i : ℕ} → Put j k i → Put j (suc k) i
-put-stays {j} {k} {i} p = record { operation = p .operation; linked = λ z. p .linked (sym (link-stays j k (suc k) i (omega arith) (p .linked)) ∙ z) }
+put-stays {j} {k} {i} p = record { operation = p .operation; linked = λ z. p .linked (sym (link-stays j k i (suc k) (omega arith) (p .linked)) ∙ z) }
 
 module _ (j : Job) (k : ℕ) where
-  pub put-pushed : (o : ℕ) → Pushes j k o → (link j (suc k) o ≢ 0) × (link j (suc k) o ≤ suc k)
-  unfolding link links made is-linked
-  put-pushed o p = earliest-least (links j o) (suc k) (suc k) (rw (equal-same (p .by), p .event)) (omega arith) (omega arith)
+  pub link-pushed : (o : ℕ) → Pushes j k o → link j (suc k) o ≡ suc k
+  unfolding actor
+  link-pushed o p = link-new j k o (p .by) (p .event) (p .unlinked)
 
   -- the node of a push is not yet on the stack
   new-node : (o : ℕ) → Pushes j k o → (c : Chain j k) → List·Memᴰ o (c .list) → ⊥
@@ -80,7 +74,7 @@ module _ (j : Job) (k : ℕ) (c : Chain j k) where
       }
     where
       go : (i : ℕ) → (i ≡ o) ⊎ List·Memᴰ i (c .list) → Put j (suc k) i
-      go i (inl e) = subst (Put j (suc k)) (sym e) (record { operation = p .operation; linked = put-pushed j k o p .0 })
+      go i (inl e) = subst (Put j (suc k)) (sym e) (record { operation = p .operation; linked = λ z. omega (arith, link-pushed j k o p) })
       go i (inr m) = put-stays (c .puts i m)
 
   chain-popped : Pops j k → memory j k .top ≢ 0 → Chain j (suc k)

@@ -3,11 +3,10 @@
 use mathlib.Core.Path.{_≡_, refl, sym, ap, subst, _∙_}
 use mathlib.Core.Logic.{_≢_, _⊎_, inl, inr}
 use Prim.Native.Nat.{ℕ, zero, suc, _≤_, _<_}
-use mathlib.Core.Bool.{Bool, true, false, _&&_, true≢false}
+use mathlib.Core.Bool.{Bool, true, false, true≢false}
 use native.Mathlib.Omega.{arith}
-use Rattle.basics.specs.Choice.{same}
 use Rattle.basics.specs.Maps.{upd}
-use Rattle.basics.proofs.Choice.{both, split, equal-same, unequal-same}
+use Rattle.basics.proofs.Choice.{split, unequal-same}
 use Rattle.basics.proofs.Maps.{upd-here, upd-there}
 use Rattle.job.specs.declared.Kind.{Kind}
 use Rattle.job.specs.declared.Kind.the-variants.{Queue, Stack}
@@ -17,9 +16,9 @@ use Rattle.machine.specs.declared.Event.the-variants.{Quiet, Round, Link
 use Rattle.machine.specs.Memory.{fresh-memory}
 use Rattle.machine.specs.Table.{first-row}
 use Rattle.machine.specs.Run.{state-after, fresh-state}
-use Rattle.machine.specs.Journal.{note, is-round, made, begins-round, start}
+use Rattle.machine.specs.Journal.{note, is-round, start}
 use Rattle.machine.specs.Explained.{Operation}
-use Rattle.machine.proofs.Searches.{latest-le, latest-new, latest-kept}
+use Rattle.machine.proofs.Stamps.{start-le, start-other, start-unless, start-new}
 use Rattle.machine.proofs.Operations.{memory, local, initial, actor, Idles, Acts, step-made}
 use Rattle.machine.proofs.Turn.{turned}
 use Rattle.machine.proofs.Life.{OfObject, of-object, life}
@@ -50,24 +49,6 @@ keeps-fresh j =
       rows = λ o op. fresh-holds (j .object) (j .is-put o) _ _ _ _ _;
     }
 
--- the last R1 of an operation, after one more step
-module _ (j : Job) (k o : ℕ) where
-  start-of-other : note j (suc k) .by ≢ o → start j (suc k) o ≡ start j k o
-  unfolding start begins-round made
-  start-of-other n = latest-kept (begins-round j o) k (rw (unequal-same n))
-
-  start-kept : is-round (note j (suc k) .event) ≡ false → start j (suc k) o ≡ start j k o
-  unfolding start begins-round made
-  start-kept e = latest-kept (begins-round j o) k (go (both (same (note j (suc k) .by) o)))
-    where
-      go : (same (note j (suc k) .by) o ≡ true) ⊎ (same (note j (suc k) .by) o ≡ false) → (same (note j (suc k) .by) o && is-round (note j (suc k) .event)) ≡ false
-      go (inl b) = rw (b, e)
-      go (inr b) = rw b
-
-  start-new : note j (suc k) .by ≡ o → is-round (note j (suc k) .event) ≡ true → start j (suc k) o ≡ suc k
-  unfolding start begins-round made
-  start-new b e = latest-new (begins-round j o) k (rw (equal-same b, e))
-
 -- what a step does to the mark of node t: nothing and no R3 on it, or it raises it
 abbrev Marking : Job → ℕ → ℕ → Type 0
 Marking j k t = ((memory j (suc k) .mark t ≡ memory j k .mark t) × (raised j (suc k) t ≡ raised j k t)) ⊎ ((t ≢ 0) × (memory j (suc k) .mark t ≢ 0) × (raised j (suc k) t ≢ 0))
@@ -92,13 +73,13 @@ module _ (j : Job) (k t : ℕ) where
       go (inr n) = inl (ap (λ f. f t) (r .mark) ∙ upd-there (memory j k .mark) u 1 n, not-raised (r .event) (unequal-same (λ e. n (sym e))))
 
 -- an R1 leaves memory as it is
-round-keeps-memory : (j : Job) (k : ℕ) → is-round (note j (suc k) .event) ≡ true → Happens j k → memory j (suc k) ≡ memory j k
+round-begins : (j : Job) (k : ℕ) → is-round (note j (suc k) .event) ≡ true → Happens j k → (note j (suc k) .event ≡ Round) × (memory j (suc k) ≡ memory j k)
 unfolding is-round
-round-keeps-memory j k e (rests r) = r .memory-kept
-round-keeps-memory j k e (pushes o p) = absurd (true≢false (sym e ∙ ap is-round (p .event)))
-round-keeps-memory j k e (pops p) = absurd (true≢false (sym e ∙ ap is-round (p .event)))
-round-keeps-memory j k e (raises o t r) = absurd (true≢false (sym e ∙ ap is-round (r .event)))
-round-keeps-memory j k e (begins o b) = b .memory-kept
+round-begins j k e (rests r) = absurd (true≢false (sym e ∙ ap is-round (r .event)))
+round-begins j k e (pushes o p) = absurd (true≢false (sym e ∙ ap is-round (p .event)))
+round-begins j k e (pops p) = absurd (true≢false (sym e ∙ ap is-round (p .event)))
+round-begins j k e (raises o t r) = absurd (true≢false (sym e ∙ ap is-round (r .event)))
+round-begins j k e (begins o b) = (b .event, b .memory-kept)
 
 module _ (j : Job) (is-stack : j .object ≡ Stack) (k : ℕ) (kept : Keeps j k) where
   stack-row : (o : ℕ) → Operation j o → OfObject Stack (local j k o .row)
@@ -143,21 +124,23 @@ module _ (j : Job) (is-stack : j .object ≡ Stack) (k : ℕ) (kept : Keeps j k)
 
   -- what an operation held before the step it still holds after it, if its last R1 is the same
   held-after : (o : ℕ) → Operation j o → start j (suc k) o ≡ start j k o → HoldsOf (local j k o) (raised j (suc k)) (memory j (suc k)) (start j (suc k) o) (memory j (start j (suc k) o) .top)
-  unfolding start
   held-after o op e =
       let t : ℕ = local j k o .registers .t in
-      let carried : HoldsOf (local j k o) (raised j (suc k)) (memory j (suc k)) (start j k o) (memory j (start j k o) .top) = holds-kept (known (local j k o .row)) t (memory j (start j k o) .top) (raised-later j k t (start j k o) (latest-le (begins-round j o) k)) (mark-stays t) (kept .rows o op) in
+      let carried : HoldsOf (local j k o) (raised j (suc k)) (memory j (suc k)) (start j k o) (memory j (start j k o) .top) = holds-kept (known (local j k o .row)) t (memory j (start j k o) .top) (raised-later j k t (start j k o) (start-le j k o)) (mark-stays t) (kept .rows o op) in
       subst (λ s. HoldsOf (local j k o) (raised j (suc k)) (memory j (suc k)) s (memory j s .top)) (sym e) carried
 
   rows-of-other : (o : ℕ) → Operation j o → note j (suc k) .by ≢ o → local j (suc k) o ≡ local j k o → HoldsOf (local j (suc k) o) (raised j (suc k)) (memory j (suc k)) (start j (suc k) o) (memory j (start j (suc k) o) .top)
-  rows-of-other o op n l = subst (λ x. HoldsOf x (raised j (suc k)) (memory j (suc k)) (start j (suc k) o) (memory j (start j (suc k) o) .top)) (sym l) (held-after o op (start-of-other j k o n))
+  unfolding actor
+  rows-of-other o op n l = subst (λ x. HoldsOf x (raised j (suc k)) (memory j (suc k)) (start j (suc k) o) (memory j (start j (suc k) o) .top)) (sym l) (held-after o op (start-other j k o n))
 
   rows-of-actor : (o : ℕ) → Operation j o → Acts j k o → HoldsOf (local j (suc k) o) (raised j (suc k)) (memory j (suc k)) (start j (suc k) o) (memory j (start j (suc k) o) .top)
   unfolding actor
-  rows-of-actor o op a = own-holds (raised j (suc k)) (start j (suc k) o) (memory j (start j (suc k) o) .top) (stack-row j is-stack k kept o op) raised-marked-next round (λ e. held-after o op (start-kept j k o e)) (turned j k o a)
+  rows-of-actor o op a = own-holds (raised j (suc k)) (start j (suc k) o) (memory j (start j (suc k) o) .top) (stack-row j is-stack k kept o op) raised-marked-next round (λ e. held-after o op (start-unless j k o e)) (turned j k o a)
     where
       round : is-round (note j (suc k) .event) ≡ true → memory j (start j (suc k) o) .top ≡ memory j k .top
-      round e = ap (λ s. memory j s .top) (start-new j k o (a .actor-is) e) ∙ ap (λ m. m .top) (round-keeps-memory j k e step)
+      round e =
+          let r : (note j (suc k) .event ≡ Round) × (memory j (suc k) ≡ memory j k) = round-begins j k e step in
+          ap (λ s. memory j s .top) (start-new j k o (a .actor-is) (r .0)) ∙ ap (λ m. m .top) (r .1)
 
   rows-next : Idles j k ⊎ ((o : ℕ) × Acts j k o) → (o : ℕ) → Operation j o → HoldsOf (local j (suc k) o) (raised j (suc k)) (memory j (suc k)) (start j (suc k) o) (memory j (start j (suc k) o) .top)
   unfolding actor
