@@ -8,6 +8,7 @@ pub mod Bounds
 pub mod Life
 pub mod Standing
 pub mod Lines
+pub mod TakesAt
 pub mod Laws
 pub mod Explains
 pub mod Queue
