@@ -13,3 +13,4 @@ pub mod Explains
 pub mod Queue
 pub mod Stack
 pub mod Theorem
+pub mod Sizes
