@@ -9,6 +9,7 @@ pub mod Life
 pub mod Standing
 pub mod Lines
 pub mod Laws
+pub mod Applies
 pub mod Explains
 pub mod Queue
 pub mod Stack
