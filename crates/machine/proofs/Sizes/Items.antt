@@ -24,6 +24,9 @@ pub data Sound (P : ℕ → Type 0) : Line → Type 0 where
   takes-sound : {item taker : ℕ} {takers : List ℕ} → P item → Sound P (takes item (taker ∷ takers))
   empty-sound : {o : ℕ} → Sound P (empty o)
 
+pub handed-out : (P : ℕ → Type 0) {item : ℕ} {takers : List ℕ} → Sound P (takes item takers) → P item
+handed-out P (takes-sound p) = p
+
 module _ (P : ℕ → Type 0) (object : Kind) where
   add-all : (kind : Kind) (o : ℕ) (c : List ℕ) → P o → All P c → All P (add kind o c)
   unfolding add

@@ -51,7 +51,7 @@ put-lines-members (r ∷ l) = go (r .line) (put-lines-members l)
     go (empty o) h = omega arith
 
 -- a line that a machine allows has a member
-sound-members : (P : ℕ → Type 0) {line : Line} → Sound P line → 1 ≤ length (members line)
+pub sound-members : (P : ℕ → Type 0) {line : Line} → Sound P line → 1 ≤ length (members line)
 unfolding members
 sound-members P (put-sound p) = omega arith
 sound-members P (takes-sound p) = omega arith
