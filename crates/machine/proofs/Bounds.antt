@@ -1,24 +1,22 @@
 -- Every register and every cell of a run holds a number of 0 to N, every operation in hand one of 1 to N + 1, and no place stands at an
 -- end: all that the safety of code needs. Assumes nothing.
-use mathlib.Core.Path.{_≡_, refl}
-use Prim.Native.Nat.{ℕ, zero, suc, _-_, _+_, _≤_}
+use mathlib.Core.Path.{_≡_}
+use Prim.Native.Nat.{ℕ, zero, suc, _-_, _≤_}
 use native.Mathlib.Omega.{arith}
-use mathlib.Core.Bool.{Bool, true, false}
+use mathlib.Core.Bool.{false}
 use Rattle.basics.specs.Choice.{same}
 use Rattle.basics.specs.Maps.{upd}
 use Rattle.basics.proofs.Choice.{pick-elim, less-le}
 use Rattle.basics.proofs.Maps.{upd-elim}
-use Rattle.job.specs.declared.Kind.{Kind}
-use Rattle.job.specs.declared.Kind.the-variants.{Queue, Stack}
 use Rattle.job.specs.Job.{Job}
 use Rattle.machine.specs.declared.Place.{Place}
 use Rattle.machine.specs.declared.Event.{Event}
 use Rattle.machine.specs.Memory.{Memory, fresh-memory, with-head, with-tail, with-top, with-next, with-mark}
-use Rattle.machine.specs.Table.{first-row}
 use Rattle.machine.specs.Access.{Registers, Reached}
-use Rattle.machine.specs.Run.{State, seek, operation-after, before, fresh-state, ended, registers, reached, row-after, place-after, resting, step, state-after}
+use Rattle.machine.specs.Run.{State, operation-after, before, fresh-state, ended, registers, reached, row-after, place-after, resting, step, state-after}
 use Rattle.machine.specs.Journal.{Answer}
 use Rattle.machine.proofs.Operations.{Local, reaches, local-after}
+use Rattle.machine.proofs.Operations.Hands.{seek-from, seek-to, begins-going}
 use Rattle.machine.proofs.Turn.{Turn, turn}
 use Rattle.machine.proofs.Turn.Turn.{q1, q2-last, q2-more, q3-links, q3-fails, q4-moves, q4-stays, q5-moves, q5-stays, t1, t2, t3-empty, t3-helps, t3-goes, t4-moves, t4-stays, t5-moves, t5-late, p1-none, p1-some, p2-clear, p2-raised, p3-pushes, p3-fails, p4-moves, p4-stays, r1-none, r1-some, r2-clear, r2-raised, r3, r4-moves, r4-stays, r5-moves, r5-stays}
 
@@ -91,27 +89,6 @@ pub record Within (j : Job) (s : State) : Type 0 where
   pub memory : MemoryWithin (j .count) (s .memory)
   pub place : (p : ℕ) → PlaceWithin (j .count) (s .places p)
 
-seek-from : (f : ℕ → Bool) (start count : ℕ) → start ≤ seek f start count
-unfolding seek
-seek-from f start zero = omega arith
-seek-from f start (suc count) =
-    pick-elim (λ x. start ≤ x) (f start) start (seek f (suc start) count) (λ e. omega arith)
-    (λ e. omega (arith, seek-from f (suc start) count))
-
-seek-to : (f : ℕ → Bool) (start count : ℕ) → seek f start count ≤ start + count
-unfolding seek
-seek-to f start zero = omega arith
-seek-to f start (suc count) =
-    pick-elim (λ x. x ≤ start + suc count) (f start) start (seek f (suc start) count) (λ e. omega arith)
-    (λ e. omega (arith, seek-to f (suc start) count))
-
-first-row-going : (object : Kind) (put : Bool) → ended (first-row object put) ≡ false
-unfolding ended first-row
-first-row-going Queue true = refl
-first-row-going Queue false = refl
-first-row-going Stack true = refl
-first-row-going Stack false = refl
-
 module _ (j : Job) where
   before-within : (p o : ℕ) → o ≤ j .count → PlaceWithin (j .count) (before j (operation-after j p o))
   unfolding before operation-after registers
@@ -120,7 +97,7 @@ module _ (j : Job) where
         from-one = omega (arith, seek-from (λ i. same (j .owner i) p) (suc o) (j .count - o));
         to-next = omega (arith, seek-to (λ i. same (j .owner i) p) (suc o) (j .count - o));
         own = record { h = omega arith; t = omega arith; n = omega arith };
-        going = first-row-going (j .object) (j .is-put (operation-after j p o));
+        going = begins-going (j .object) (j .is-put (operation-after j p o));
       }
 
   reached-within : (m : Memory) (p : Place) → p .operation .0 ≤ j .count → MemoryWithin (j .count) m → PlaceWithin (j .count) p → TurnWithin (j .count) (reached m p .memory) (reached m p .registers)

@@ -10,7 +10,9 @@ pub mod Standing
 pub mod Lines
 pub mod TakesAt
 pub mod Laws
+pub mod Applies
 pub mod Explains
 pub mod Queue
 pub mod Stack
 pub mod Theorem
+pub mod Sizes

@@ -8,7 +8,7 @@ use mathlib.Core.List.List·Memᴰ.{List·Memᴰ·head, List·Memᴰ·tail}
 use native.Mathlib.Omega.{arith}
 use lib.ListN.{length}
 use Rattle.basics.specs.Choice.{pick, same}
-use Rattle.basics.proofs.Choice.{both, pick-true, pick-false, pick-elim, same-refl, same-equal, same-unequal, equal-same, unequal-same, split}
+use Rattle.basics.proofs.Choice.{both, pick-true, pick-false, pick-then, pick-elim, same-refl, same-equal, same-unequal, equal-same, unequal-same, split}
 use Rattle.machine.specs.Effects.{numbers, sift}
 use Rattle.machine.specs.Explained.{occurrences}
 
@@ -148,6 +148,33 @@ occurs-once x (more {x = y} {l = l} fresh d) m =
     go below (inr d) (inr n) =
         let one-behind : occurrences x l ≡ 1 = below n in
         rw (unequal-same d, pick-false) (omega arith)
+
+-- a member occurs
+occurs : {x : ℕ} {l : List ℕ} → List·Memᴰ x l → 1 ≤ occurrences x l
+unfolding occurrences
+occurs {x} (List·Memᴰ·head {x = y} {xs = l} e) =
+    let one : _≡_ {A = ℕ} (pick (same x y) 1 0) 1 = pick-then 1 0 (equal-same e) in
+    omega arith
+occurs {x} (List·Memᴰ·tail {x = y} {xs = l} m) = let behind : 1 ≤ occurrences x l = occurs m in omega arith
+
+-- a list of which no member occurs twice
+pub occurring-once : (l : List ℕ) → ((x : ℕ) → List·Memᴰ x l → occurrences x l ≤ 1) → Distinct l
+unfolding occurrences
+occurring-once [] h = none
+occurring-once (x ∷ l) h =
+    more fresh (occurring-once l (λ y m. let all : pick (same y x) 1 0 + occurrences y l ≤ 1 = h y (List·Memᴰ·tail m) in omega arith))
+  where
+    fresh : List·Memᴰ x l → ⊥
+    fresh m =
+        let all : pick (same x x) 1 0 + occurrences x l ≤ 1 = h x (List·Memᴰ·head refl) in
+        let one : _≡_ {A = ℕ} (pick (same x x) 1 0) 1 = pick-then 1 0 (same-refl x) in
+        let behind : 1 ≤ occurrences x l = occurs m in
+        omega arith
+
+pub occurrences-append : (x : ℕ) (a b : List ℕ) → occurrences x (a ++ b) ≡ occurrences x a + occurrences x b
+unfolding occurrences
+occurrences-append x [] b = omega arith
+occurrences-append x (y ∷ a) b = omega (arith, occurrences-append x a b)
 
 -- one number left out of a distinct list shortens it by one at most
 shortens-by-one : (y : ℕ) {l : List ℕ} → Distinct l → length l ≤ suc (length (sift (λ x. not (same x y)) l))

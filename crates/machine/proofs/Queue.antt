@@ -6,3 +6,5 @@ pub mod Keeps
 pub mod Grows
 pub mod Rows
 pub mod Steps
+pub mod Contents
+pub mod Always

@@ -7,3 +7,4 @@ pub mod Keeps
 pub mod Chain
 pub mod Deeds
 pub mod Takers
+pub mod Contents

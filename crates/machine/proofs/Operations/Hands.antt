@@ -70,7 +70,8 @@ before-is-initial : (j : Job) (o : ℕ) → before j o ≡ place-of o (initial j
 unfolding before place-of initial
 before-is-initial j o = refl
 
-begins-going : (object : Kind) (put : Bool) → ended (first-row object put) ≡ false
+-- an operation does not begin at an end
+pub begins-going : (object : Kind) (put : Bool) → ended (first-row object put) ≡ false
 unfolding ended first-row
 begins-going Queue true = refl
 begins-going Queue false = refl

@@ -39,6 +39,40 @@ pub record Sound (count k : ℕ) (v : Now) : Type 0 where
   pub contents : List ℕ
   pub chain : Chain (v .next) (v .head) contents
 
+-- a fresh queue: the sentinel alone is linked
+pub fresh-sound : (count : ℕ) → Sound count 0 (record { head = 0; tail = 0; next = λ i. 0; born = λ i. 0; moved = λ i. 0 })
+fresh-sound count =
+    record {
+      order =
+          record {
+            sentinel-unborn = refl;
+            born-by-now = λ i. omega arith;
+            born-operation = λ i n. absurd (n refl);
+            born-apart = λ i x li lx e. sentinel li (split i 0) ∙ sym (sentinel lx (split x 0));
+            from-linked = λ i n. absurd (n refl);
+            to-linked = λ i n. absurd (n refl);
+            ascends = λ i n. absurd (n refl);
+            adjacent = λ i n. absurd (n refl);
+            last = λ i l z x. omega arith;
+          };
+      ends =
+          record {
+            head-linked = λ n. absurd (n refl);
+            tail-linked = λ n. absurd (n refl);
+            head-to-tail = omega arith;
+            moved-linked = λ i n. absurd (n refl);
+            moved-behind = λ i n. absurd (n refl);
+            behind-moved = λ i n. absurd (n refl);
+            moved-by-now = λ i. omega arith;
+          };
+      contents = [];
+      chain = ends refl;
+    }
+  where
+    sentinel : {i : ℕ} → (i ≢ 0 → _≡_ {A = ℕ} 0 0 → ⊥) → (i ≡ 0) ⊎ (i ≢ 0) → i ≡ 0
+    sentinel l (inl z) = z
+    sentinel l (inr n) = absurd (l n refl)
+
 -- an event of a step that leaves memory and its stamps as they are
 pub data Still : Event → Type 0 where
   quiet : Still Quiet

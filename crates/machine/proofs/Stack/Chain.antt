@@ -60,6 +60,9 @@ module _ (j : Job) (k : ℕ) where
   pub nodes-stay : memory j (suc k) .next ≡ memory j k .next → memory j (suc k) .top ≡ memory j k .top → (c : Chain j k) → Nodes (memory j (suc k) .next) (memory j (suc k) .top) (c .list)
   nodes-stay n t c = subst₂ (λ f i. Nodes f i (c .list)) (sym n) (sym t) (c .nodes)
 
+pub distinct-first : {x : ℕ} {l : List ℕ} → Distinct (x ∷ l) → List·Memᴰ x l → ⊥
+distinct-first (Distinct.more fresh d) = fresh
+
 distinct-rest : {x : ℕ} {l : List ℕ} → Distinct (x ∷ l) → Distinct l
 distinct-rest (Distinct.more fresh d) = d
 

@@ -107,11 +107,14 @@ module _ (j : Job) (is-stack : j .object ≡ Stack) (k t : ℕ) (some : t ≢ 0)
   unfolding deeds
   taken-has-line o op e z = taker-of j is-stack k o op t e some .joined .started (omega (arith, line-after-rounds o op e))
 
-  -- a node has a line exactly if it is marked
-  pub marked-has-line : memory j k .mark t ≢ 0 → latest-start j k t ≢ 0
-  marked-has-line n =
-      let o : (o : ℕ) × Operation j o × (taken j k o ≡ t) = raised-has-taker (keeps j is-stack k .marked-raised t n) in
+  -- a node has a line exactly if an R3 on it was made, and if it is marked
+  pub raised-has-line : raised j k t ≢ 0 → latest-start j k t ≢ 0
+  raised-has-line n =
+      let o : (o : ℕ) × Operation j o × (taken j k o ≡ t) = raised-has-taker n in
       taken-has-line (o .0) (o .1) (o .2)
+
+  pub marked-has-line : memory j k .mark t ≢ 0 → latest-start j k t ≢ 0
+  marked-has-line n = raised-has-line (keeps j is-stack k .marked-raised t n)
 
   pub line-marked : latest-start j k t ≢ 0 → memory j k .mark t ≢ 0
   line-marked n = keeps j is-stack k .raised-marked t (takers-line n .was-raised)
