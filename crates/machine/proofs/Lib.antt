@@ -8,6 +8,7 @@ pub mod Bounds
 pub mod Life
 pub mod Standing
 pub mod Lines
+pub mod TakesAt
 pub mod Laws
 pub mod Applies
 pub mod Explains
