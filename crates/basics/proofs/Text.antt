@@ -3,7 +3,7 @@ use Prim.Native.Nat.{ℕ, zero, suc, _+_, _/_, _%_, _^_, _≤_, _<_}
 use mathlib.Core.List.{[], _∷_, _++_}
 use native.Mathlib.Omega.{arith}
 use lib.ListN.{length, length-append}
-use Rattle.basics.specs.Choice.{pick, less}
+use Rattle.basics.specs.Choice.{less}
 use Rattle.basics.specs.Text.{digits, decimal}
 use Rattle.basics.proofs.Choice.{pick-elim, less-le}
 

@@ -1,8 +1,8 @@
 -- From an object's laws to Explained, once, for every object. Assumes nothing.
 use mathlib.Core.Path.{_≡_, refl, sym, ap, subst, _∙_}
-use mathlib.Core.Logic.{_≢_, _⊎_, inl, inr}
-use Prim.Native.Nat.{ℕ, zero, suc, _≤_, _<_}
-use mathlib.Core.Bool.{Bool, true, false, not, _&&_, _||_, true≢false, or-true, and-false}
+use mathlib.Core.Logic.{_≢_}
+use Prim.Native.Nat.{ℕ, _<_}
+use mathlib.Core.Bool.{true, false, not, _&&_, _||_, true≢false, or-true, and-false}
 use mathlib.Core.List.{List, List·Memᴰ}
 use native.Mathlib.Omega.{arith}
 use Rattle.basics.specs.Choice.{same}
@@ -11,12 +11,12 @@ use Rattle.job.specs.declared.Kind.the-variants.{Stack}
 use Rattle.job.specs.Job.{Job}
 use Rattle.machine.specs.Multiplicity.{Line}
 use Rattle.machine.specs.Multiplicity.Line.{put, takes, empty}
-use Rattle.machine.specs.Journal.{Answer, first, last, answer, start, link, join, taken}
+use Rattle.machine.specs.Journal.{Answer, last, answer, start, link, join, taken}
 use Rattle.machine.specs.Effects.{takers, takes-at, effect, is-stack, took-effect, Precedes, Overlap}
 use Rattle.machine.specs.Effects.Effect.{none, stands}
 use Rattle.machine.specs.Record.{Recorded, the-record}
 use Rattle.machine.specs.Explained.{members, times, Says, Answered, InEffect, Operation, Explained}
-use Rattle.machine.proofs.Life.{Deeds, deeds, Going}
+use Rattle.machine.proofs.Life.{deeds, Going}
 use Rattle.machine.proofs.Standing.{Standing, standing}
 use Rattle.machine.proofs.Standing.Standing.{going, has-linked, is-done, has-joined, has-item, is-empty}
 use Rattle.machine.proofs.Lines.{Effected, effected, effect-of-put, effect-of-taker, effect-of-empty, taker-in}

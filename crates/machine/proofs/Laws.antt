@@ -6,7 +6,7 @@ use Prim.Native.Nat.{ℕ, suc, _≤_, _<_}
 use mathlib.Core.List.{List, [], _∷_}
 use Rattle.job.specs.declared.Kind.{Kind}
 use Rattle.job.specs.Job.{Job}
-use Rattle.machine.specs.Multiplicity.{Line, add}
+use Rattle.machine.specs.Multiplicity.{add}
 use Rattle.machine.specs.Multiplicity.Line.{put, takes, empty}
 use Rattle.machine.specs.Journal.{Answer, note, first, join, taken, answer}
 use Rattle.machine.specs.Effects.{takes-at}

@@ -2,12 +2,12 @@
 -- nothing elsewhere. It serves both objects. Assumes nothing.
 use mathlib.Core.Path.{_≡_, refl, sym, ap, subst, _∙_}
 use mathlib.Core.Logic.{_≢_, _⊎_, inl, inr}
-use Prim.Native.Nat.{ℕ, suc, _≤_, _<_}
-use mathlib.Core.Bool.{Bool, true, false, not, _&&_, true≢false, and-eq-true-iff}
-use mathlib.Core.List.{List, [], _∷_, List·Memᴰ}
+use Prim.Native.Nat.{ℕ, _≤_}
+use mathlib.Core.Bool.{true, false, not, true≢false, and-eq-true-iff}
+use mathlib.Core.List.{[], _∷_, List·Memᴰ}
 use native.Mathlib.Omega.{arith}
-use Rattle.basics.specs.Choice.{pick, same}
-use Rattle.basics.proofs.Choice.{both, pick-then, pick-else, same-equal, equal-same, unequal-same, split}
+use Rattle.basics.specs.Choice.{same}
+use Rattle.basics.proofs.Choice.{pick-then, pick-else, same-equal, equal-same, unequal-same, split}
 use Rattle.job.specs.declared.Kind.{Kind}
 use Rattle.job.specs.declared.Kind.the-variants.{Queue, Stack}
 use Rattle.job.specs.Job.{Job}
@@ -18,7 +18,7 @@ use Rattle.machine.specs.Multiplicity.Line.{put, takes, empty}
 use Rattle.machine.specs.Journal.{Answer, note, is-round, is-linked, item-of, moved-to, made, begins-round, links, joins, answer, start, link, join, taken}
 use Rattle.machine.specs.Effects.{Effect, numbers, takers, first-move, latest-start, takes-at, is-empty, effect}
 use Rattle.machine.specs.Effects.Effect.{none, stands}
-use Rattle.machine.specs.Record.{Recorded, if-at, line-at}
+use Rattle.machine.specs.Record.{if-at, line-at}
 use Rattle.machine.specs.Explained.{Operation}
 use Rattle.machine.proofs.Lists.{sift-in, sift-out, numbers-in, numbers-out}
 use Rattle.machine.proofs.Searches.{earliest-meets, latest-meets, largest-attained}

@@ -1,14 +1,14 @@
 -- Facts about lists of numbers: membership, no repetition, and that distinct numbers from 1 to n are at most n. Assumes nothing.
-use mathlib.Core.Path.{_≡_, refl, sym, ap, ap₂, subst, _∙_}
+use mathlib.Core.Path.{_≡_, refl, sym, ap, _∙_}
 use mathlib.Core.Logic.{_≢_, _⊎_, inl, inr}
-use Prim.Native.Nat.{ℕ, zero, suc, _+_, _≤_, _<_}
+use Prim.Native.Nat.{ℕ, zero, suc, _+_, _≤_}
 use mathlib.Core.Bool.{Bool, true, false, not, true≢false}
 use mathlib.Core.List.{List, [], _∷_, _++_, List·Memᴰ, List·Memᴰ·not-nil, List·Memᴰ·cases-cons, List·Memᴰ·append-cases, List·Memᴰ·eq-of-singleton, Memᴰ·append-left, Memᴰ·append-right, Memᴰ·cast}
 use mathlib.Core.List.List·Memᴰ.{List·Memᴰ·head, List·Memᴰ·tail}
 use native.Mathlib.Omega.{arith}
 use lib.ListN.{length}
 use Rattle.basics.specs.Choice.{pick, same}
-use Rattle.basics.proofs.Choice.{both, pick-true, pick-false, pick-then, pick-elim, same-refl, same-equal, same-unequal, equal-same, unequal-same, split}
+use Rattle.basics.proofs.Choice.{both, pick-true, pick-false, pick-then, pick-elim, same-refl, same-equal, equal-same, unequal-same, split}
 use Rattle.machine.specs.Effects.{numbers, sift}
 use Rattle.machine.specs.Explained.{occurrences}
 

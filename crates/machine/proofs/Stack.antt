@@ -8,3 +8,4 @@ pub mod Chain
 pub mod Deeds
 pub mod Takers
 pub mod Contents
+pub mod Played

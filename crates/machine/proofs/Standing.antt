@@ -12,7 +12,7 @@ use Rattle.machine.specs.Access.{Registers}
 use Rattle.machine.specs.Journal.{Answer}
 use Rattle.machine.specs.Explained.{Operation}
 use Rattle.machine.proofs.Operations.{local}
-use Rattle.machine.proofs.Life.{OfObject, Deeds, deeds, Going, InRound, WithTop, HasLinked, HasJoined, EndedWith, NotEnded, TookN, FoundEmpty, LifeAt, of-object, life}
+use Rattle.machine.proofs.Life.{OfObject, Deeds, deeds, Going, HasLinked, HasJoined, EndedWith, NotEnded, TookN, FoundEmpty, LifeAt, of-object, life}
 
 -- where an operation on an object stands by its deeds
 pub data Standing (object : Kind) (d : Deeds) : Type 0 where

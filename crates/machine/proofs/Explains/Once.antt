@@ -1,26 +1,25 @@
 -- An operation with an effect is in the record once, and one without is not in it. Assumes nothing.
 use mathlib.Core.Path.{_≡_, refl, sym, ap, subst, _∙_}
 use mathlib.Core.Logic.{_≢_, _⊎_, inl, inr}
-use Prim.Native.Nat.{ℕ, zero, suc, _+_, _≤_, _<_}
-use mathlib.Core.List.{List, [], _∷_, _++_, List·Memᴰ, List·Memᴰ·not-nil}
+use Prim.Native.Nat.{ℕ, zero, suc, _+_, _≤_}
+use mathlib.Core.List.{List, [], _∷_, _++_, List·Memᴰ·not-nil}
 use native.Mathlib.Omega.{arith}
 use Rattle.basics.specs.Choice.{same}
 use Rattle.basics.proofs.Choice.{split}
 use Rattle.job.specs.Job.{Job}
 use Rattle.machine.specs.Multiplicity.{Line}
 use Rattle.machine.specs.Multiplicity.Line.{put, takes, empty}
-use Rattle.machine.specs.Journal.{note, taken}
+use Rattle.machine.specs.Journal.{taken}
 use Rattle.machine.specs.Effects.{takers, effect}
 use Rattle.machine.specs.Effects.Effect.{none, stands}
 use Rattle.machine.specs.Record.{Recorded, line-at, lines-to, the-record}
-use Rattle.machine.specs.Explained.{members, occurrences, times, Operation}
+use Rattle.machine.specs.Explained.{members, occurrences, times}
 use Rattle.machine.proofs.Lists.{Distinct, numbers-distinct, sift-distinct, occurs-never, occurs-once}
 use Rattle.machine.proofs.Lines.{Effected, effected, line-of-effect}
 use Rattle.machine.proofs.Lines.Effected.{by-put, by-take, by-empty, by-none}
-use Rattle.machine.proofs.Laws.{Laws}
 use Rattle.machine.proofs.Explains.Steps.{AtStep, at-step}
 use Rattle.machine.proofs.Explains.Steps.AtStep.{no-line, a-line}
-use Rattle.machine.proofs.Explains.Owns.{Member, member, Own, own}
+use Rattle.machine.proofs.Explains.Owns.{member, Own}
 
 pub times-append : (o : ℕ) (a b : List Recorded) → times o (a ++ b) ≡ times o a + times o b
 unfolding times

@@ -2,20 +2,19 @@
 -- operation's first and last step. Assumes nothing.
 use mathlib.Core.Path.{_≡_, refl, sym, ap, subst, subst₂, _∙_}
 use mathlib.Core.Logic.{_≢_, _⊎_, inl, inr}
-use Prim.Native.Nat.{ℕ, zero, suc, _≤_, _<_}
-use mathlib.Core.Bool.{true, false, not, and-eq-true-iff}
-use mathlib.Core.List.{List, [], _∷_, List·Memᴰ, List·Memᴰ·not-nil, List·Memᴰ·head, List·Memᴰ·eq-of-singleton}
+use Prim.Native.Nat.{ℕ, zero, suc, _≤_}
+use mathlib.Core.Bool.{true, not, and-eq-true-iff}
+use mathlib.Core.List.{List·Memᴰ, List·Memᴰ·head, List·Memᴰ·eq-of-singleton}
 use native.Mathlib.Omega.{arith}
 use Rattle.basics.specs.Choice.{same}
 use Rattle.basics.proofs.Choice.{equal-same}
 use Rattle.job.specs.Job.{Job}
-use Rattle.machine.specs.declared.Event.{Event}
-use Rattle.machine.specs.declared.Event.the-variants.{Quiet, Round, Linked, Moved}
+use Rattle.machine.specs.declared.Event.the-variants.{Quiet}
 use Rattle.machine.specs.Multiplicity.{Line}
 use Rattle.machine.specs.Multiplicity.Line.{put, takes, empty}
 use Rattle.machine.specs.Journal.{Answer, idle, note, item-of, made, begins-round, links, joins, first, last, answer, start, link, join, taken}
 use Rattle.machine.specs.Effects.{takers, takes-at, effect}
-use Rattle.machine.specs.Effects.Effect.{none, stands}
+use Rattle.machine.specs.Effects.Effect.{stands}
 use Rattle.machine.specs.Explained.{members, Operation}
 use Rattle.machine.proofs.Searches.{earliest-le, earliest-meets, latest-le}
 use Rattle.machine.proofs.Operations.{actor, Idles, Acts, step-made}

@@ -2,7 +2,7 @@
 -- the lines, and the items left. Assumes nothing.
 use mathlib.Core.Path.{_≡_, refl, sym, subst}
 use mathlib.Core.Logic.{_≢_, _⊎_, inl, inr}
-use Prim.Native.Nat.{ℕ, zero, suc, _+_, _≤_, _<_}
+use Prim.Native.Nat.{ℕ, _≤_}
 use mathlib.Core.Bool.{true, false}
 use mathlib.Core.List.{List, [], _∷_, _++_, List·Memᴰ, List·Memᴰ·not-nil, List·Memᴰ·head, List·Memᴰ·tail, List·Memᴰ·append-cases, Memᴰ·map, Memᴰ·of-map}
 use native.Mathlib.Omega.{arith}
@@ -15,7 +15,7 @@ use Rattle.machine.specs.Journal.{last}
 use Rattle.machine.specs.Effects.{took-effect}
 use Rattle.machine.specs.Record.{Recorded, the-record, lines-of}
 use Rattle.machine.specs.Left.{left}
-use Rattle.machine.specs.Explained.{members, occurrences, times, put-lines, take-lines, Operation, Explained}
+use Rattle.machine.specs.Explained.{members, occurrences, times, put-lines, Operation, Explained}
 use Rattle.machine.proofs.Lists.{distinct-at-most, occurring-once, occurrences-append}
 use Rattle.machine.proofs.Sizes.Items.{Sound, played}
 use Rattle.machine.proofs.Sizes.Items.Sound.{put-sound, takes-sound, empty-sound}
