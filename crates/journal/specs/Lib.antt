@@ -1,2 +1,3 @@
 -- What the journal's cells hold after a step, by the step's event.
 pub mod Cells
+pub mod Holds
