@@ -9,20 +9,19 @@ pub mod Deeds
 pub mod Takers
 pub mod Contents
 pub mod Played
-use mathlib.Core.Path.{_≡_, refl, sym, ap, _∙_}
+use mathlib.Core.Path.{_≡_, refl, ap, _∙_}
 use mathlib.Core.Logic.{_≢_}
-use Prim.Native.Nat.{ℕ, suc, _≤_, _<_}
+use Prim.Native.Nat.{ℕ, _≤_, _<_}
 use native.Mathlib.Omega.{arith}
 use Rattle.basics.proofs.Choice.{equal-same}
 use Rattle.job.specs.declared.Kind.the-variants.{Stack}
 use Rattle.job.specs.Job.{Job}
-use Rattle.machine.specs.declared.Event.the-variants.{Round}
 use Rattle.machine.specs.Journal.{note, made, first, start, join, taken}
 use Rattle.machine.specs.Effects.{latest-start, takes-at}
 use Rattle.machine.specs.Explained.{Operation}
 use Rattle.machine.proofs.Stamps.{start-le}
 use Rattle.machine.proofs.Life.{deeds, made-from-first}
-use Rattle.machine.proofs.Lines.{StepOf, start-step}
+use Rattle.machine.proofs.Lines.{start-step}
 use Rattle.machine.proofs.Laws.{Laws}
 use Rattle.machine.proofs.Stack.Deeds.{item-is-node, taker-of}
 use Rattle.machine.proofs.Stack.Takers.{TakersLine, takers-line, taken-has-line, line-after-rounds, raised-to-join}
