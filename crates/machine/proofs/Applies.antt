@@ -1,5 +1,5 @@
 -- The line at a step turns contents into others, from what the line and the contents are said to be. Both objects use it. Assumes nothing.
-use mathlib.Core.Path.{_≡_, refl, sym, ap, subst, subst₂, subst₃, _∙_}
+use mathlib.Core.Path.{_≡_, sym, subst₂, subst₃}
 use Prim.Native.Nat.{ℕ}
 use mathlib.Core.List.{List, [], _∷_, List·Memᴰ}
 use mathlib.Core.List.List·Memᴰ.{List·Memᴰ·head, List·Memᴰ·tail}

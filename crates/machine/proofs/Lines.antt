@@ -50,7 +50,7 @@ pub data Effected (j : Job) (k o : ℕ) : Type 0 where
   by-empty : link j k o ≡ 0 → taken j k o ≡ 0 → answer j k o ≡ Answer.empty → effect j k o ≡ stands (start j k o) (empty o) → Effected j k o
   by-none : link j k o ≡ 0 → taken j k o ≡ 0 → answer j k o ≢ Answer.empty → effect j k o ≡ none → Effected j k o
 
-found-empty : (a : Answer) → (a ≡ Answer.empty) ⊎ ((a ≢ Answer.empty) × (is-empty a ≡ false))
+pub found-empty : (a : Answer) → (a ≡ Answer.empty) ⊎ ((a ≢ Answer.empty) × (is-empty a ≡ false))
 unfolding is-empty
 found-empty Answer.none = inr (λ e. (let z : _≡_ {A = ℕ} 0 1 = cc in omega arith), refl)
 found-empty Answer.done = inr (λ e. (let z : _≡_ {A = ℕ} 0 1 = cc in omega arith), refl)

@@ -16,12 +16,12 @@ use Rattle.job.specs.Refusals.{most-operations, most-steps}
 use Rattle.job.specs.Job.{Job}
 use Rattle.machine.specs.Multiplicity.{Line}
 use Rattle.machine.specs.Multiplicity.Line.{put, takes, empty}
-use Rattle.machine.specs.Journal.{Answer, made, ends, first, last, answer}
+use Rattle.machine.specs.Journal.{Answer, first, last, answer}
 use Rattle.machine.specs.Record.{Recorded, the-record}
 use Rattle.machine.specs.Left.{left}
 use Rattle.machine.specs.Explained.{members, Says, Answered, Operation, Explained}
 use Rattle.machine.specs.Report.{centimetres, object-line, action-text, answer-text, progress-text, operation-line, operation-lines, spaced, effect-text, record-line, record-lines, left-line, report}
-use Rattle.machine.proofs.Searches.{earliest-le}
+use Rattle.machine.proofs.Stamps.{first-le, last-le}
 use Rattle.machine.proofs.Explains.Steps.{Placed, placed}
 use Rattle.machine.proofs.Sizes.Items.{Sound, handed-out}
 use Rattle.machine.proofs.Sizes.Members.{all-members, sound-members, members-count, line-sound, left-operation, left-count}
@@ -94,15 +94,15 @@ module _ (j : Job) (fits : Fits j) where
         go line b e Says.says-empty s = let z : _≡_ {A = ℕ} 0 1 = cc in absurd (omega arith)
 
     progress-length : (o : ℕ) → Operation j o → length (progress-text j (j .steps) o) ≤ 43
-    unfolding progress-text text first last
+    unfolding progress-text text
     progress-length o op =
-        pick-elim (λ l. length l ≤ 43) (same (first j (j .steps) o) 0) (text " first - last - waiting") (text " first " ++ decimal (first j (j .steps) o) ++ text " last " ++ end-text) (λ t. omega arith) (λ t. simp length-append (omega (arith, step-length (first j (j .steps) o) (earliest-le (made j o) (j .steps)), end-length)))
+        pick-elim (λ l. length l ≤ 43) (same (first j (j .steps) o) 0) (text " first - last - waiting") (text " first " ++ decimal (first j (j .steps) o) ++ text " last " ++ end-text) (λ t. omega arith) (λ t. simp length-append (omega (arith, step-length (first j (j .steps) o) (first-le j (j .steps) o), end-length)))
       where
         end-text : List ℕ
         end-text = pick (same (last j (j .steps) o) 0) (text "- open") (decimal (last j (j .steps) o) ++ answer-text j (answer j (j .steps) o))
 
         end-length : length end-text ≤ 25
-        end-length = pick-elim (λ l. length l ≤ 25) (same (last j (j .steps) o) 0) (text "- open") (decimal (last j (j .steps) o) ++ answer-text j (answer j (j .steps) o)) (λ t. omega arith) (λ t. simp length-append (omega (arith, step-length (last j (j .steps) o) (earliest-le (ends j o) (j .steps)), answer-length (answer j (j .steps) o) (λ n a. answer-operation o n op (same-unequal t) a))))
+        end-length = pick-elim (λ l. length l ≤ 25) (same (last j (j .steps) o) 0) (text "- open") (decimal (last j (j .steps) o) ++ answer-text j (answer j (j .steps) o)) (λ t. omega arith) (λ t. simp length-append (omega (arith, step-length (last j (j .steps) o) (last-le j (j .steps) o), answer-length (answer j (j .steps) o) (λ n a. answer-operation o n op (same-unequal t) a))))
 
     operation-line-length : (o : ℕ) → Operation j o → length (operation-line j (j .steps) o) ≤ 71
     unfolding operation-line text

@@ -12,11 +12,12 @@ use Rattle.job.specs.Job.{Job}
 use Rattle.machine.specs.declared.Event.the-variants.{Quiet}
 use Rattle.machine.specs.Multiplicity.{Line}
 use Rattle.machine.specs.Multiplicity.Line.{put, takes, empty}
-use Rattle.machine.specs.Journal.{Answer, idle, note, item-of, made, begins-round, links, joins, first, last, answer, start, link, join, taken}
+use Rattle.machine.specs.Journal.{Answer, note, item-of, made, joins, first, last, answer, start, link, join, taken}
 use Rattle.machine.specs.Effects.{takers, takes-at, effect}
 use Rattle.machine.specs.Effects.Effect.{stands}
 use Rattle.machine.specs.Explained.{members, Operation}
-use Rattle.machine.proofs.Searches.{earliest-le, earliest-meets, latest-le}
+use Rattle.machine.proofs.Searches.{earliest-meets}
+use Rattle.machine.proofs.Stamps.{link-le, start-le, join-le, taken-none}
 use Rattle.machine.proofs.Operations.{actor, Idles, Acts, step-made}
 use Rattle.machine.proofs.Life.{deeds, made-from-first, made-to-last}
 use Rattle.machine.proofs.Standing.{standing, empty-found}
@@ -97,36 +98,27 @@ own-of-maker j k o s line op b low high e m =
       to-last = made-to-last j k o s op own-step high;
     }
 
--- who took an item ran its T5 or R3
-taken-joined : (j : Job) (k o : ℕ) → taken j k o ≢ 0 → join j k o ≢ 0
-unfolding taken note idle item-of
-taken-joined j k o t z = t (ap (λ s. item-of (note j s .event)) z)
-
 join-made : (j : Job) (k o : ℕ) → join j k o ≢ 0 → made j o (join j k o) ≡ true
 unfolding join joins
 join-made j k o some = and-eq-true-iff (made j o (join j k o)) (not (same (item-of (note j (join j k o) .event)) 0)) .0 (earliest-meets (joins j o) k some) .0
 
-join-le : (j : Job) (k o : ℕ) → join j k o ≤ k
-unfolding join
-join-le j k o = earliest-le (joins j o) k
-
 module _ (j : Job) (k : ℕ) (laws : Laws j k) (o : ℕ) (op : Operation j o) where
   own-put : link j k o ≢ 0 → Own j k o (link j k o) (put o)
-  unfolding link members
-  own-put l = own-of-maker j k o (link j k o) (put o) op (link-step j k o l .by) l (earliest-le (links j o) k) (effect-of-put j k o l) (List·Memᴰ·head refl)
+  unfolding members
+  own-put l = own-of-maker j k o (link j k o) (put o) op (link-step j k o l .by) l (link-le j k o) (effect-of-put j k o l) (List·Memᴰ·head refl)
 
   own-empty : answer j k o ≡ Answer.empty → Own j k o (start j k o) (empty o)
-  unfolding deeds start members
+  unfolding deeds members
   own-empty a =
       let some : start j k o ≢ 0 = empty-found (standing j k o op) a .started in
-      own-of-maker j k o (start j k o) (empty o) op (start-step j k o some .by) some (latest-le (begins-round j o) k) (effect-of-empty j k o op a) (List·Memᴰ·head refl)
+      own-of-maker j k o (start j k o) (empty o) op (start-step j k o some .by) some (start-le j k o) (effect-of-empty j k o op a) (List·Memᴰ·head refl)
 
   own-take : taken j k o ≢ 0 → Own j k o (takes-at (j .object) j k (taken j k o)) (takes (taken j k o) (takers j k (taken j k o)))
   unfolding members
   own-take t =
       let item : ℕ = taken j k o in
       let s : ℕ = takes-at (j .object) j k item in
-      let joined : join j k o ≢ 0 = taken-joined j k o t in
+      let joined : join j k o ≢ 0 = λ z. t (taken-none j o k z) in
       let own-step : made j o (join j k o) ≡ true = join-made j k o joined in
       let f : (first j k o ≢ 0) × (first j k o ≤ join j k o) = made-from-first j k o (join j k o) own-step (omega arith) (join-le j k o) in
       let from : first j k o ≤ s = laws .from-first o op t in

@@ -88,3 +88,20 @@ pub data Change (count k o : ℕ) (v : Now) : Event → Now → Type 0 where
   tail-moves : {n : ℕ} → v .next (v .tail) ≡ n → n ≢ 0 → Change count k o v Quiet (record { head = v .head; tail = n; next = v .next; born = v .born; moved = v .moved })
   -- T5 moves Head to its next
   head-moves : {n : ℕ} → v .next (v .head) ≡ n → n ≢ 0 → v .born n ≤ v .born (v .tail) → Change count k o v (Moved n) (record { head = n; tail = v .tail; next = v .next; born = v .born; moved = upd (v .moved) n (suc k) })
+
+-- a step that moves Head to n stamps n, a node
+abbrev pub Stamps : ℕ → Event → Now → Type 0
+Stamps k Quiet w = Unit {0}
+Stamps k Round w = Unit {0}
+Stamps k Linked w = Unit {0}
+Stamps k (Moved n) w = (n ≢ 0) × (w .moved n ≡ suc k)
+Stamps k (Late n) w = Unit {0}
+Stamps k (Raised t) w = Unit {0}
+
+pub change-stamps : {count k o : ℕ} {v w : Now} {e : Event} → Change count k o v e w → Stamps k e w
+change-stamps (stays quiet) = tt
+change-stamps (stays round) = tt
+change-stamps (stays late) = tt
+change-stamps (links b) = tt
+change-stamps (tail-moves e m) = tt
+change-stamps {k} {v} (head-moves {n = n} e m h) = (m, upd-here (v .moved) n (suc k))

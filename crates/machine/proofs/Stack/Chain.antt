@@ -2,9 +2,9 @@
 -- other step changes them. Assumes nothing.
 use mathlib.Core.Path.{_≡_, refl, sym, ap, subst, subst₂, _∙_}
 use mathlib.Core.Logic.{_≢_, _⊎_, inl, inr}
-use Prim.Native.Nat.{ℕ, zero, suc, _≤_, _<_}
+use Prim.Native.Nat.{ℕ, zero, suc}
 use mathlib.Core.List.{List, [], _∷_, List·Memᴰ, List·Memᴰ·not-nil, List·Memᴰ·cases-cons}
-use mathlib.Core.List.List·Memᴰ.{List·Memᴰ·head, List·Memᴰ·tail}
+use mathlib.Core.List.List·Memᴰ.{List·Memᴰ·tail}
 use native.Mathlib.Omega.{arith}
 use Rattle.basics.specs.Maps.{upd}
 use Rattle.basics.proofs.Maps.{upd-here}
@@ -19,7 +19,7 @@ use Rattle.machine.proofs.Lists.{Distinct, distinct-at-most}
 use Rattle.machine.proofs.Stamps.{link-stays, link-new}
 use Rattle.machine.proofs.Operations.{memory, actor}
 use Rattle.machine.proofs.Stack.Nodes.{Nodes, end, node, nodes-unique, nodes-none, nodes-first, nodes-kept, nodes-walk}
-use Rattle.machine.proofs.Stack.Steps.{Happens, Rests, Pushes, Pops, Raises, Begins, rests, pushes, pops, raises, begins}
+use Rattle.machine.proofs.Stack.Steps.{Happens, Pushes, Pops, rests, pushes, pops, raises, begins}
 use Rattle.machine.proofs.Stack.Keeps.{Keeps, keeps, happens}
 
 -- a node that was linked: its put's number and its changing P3

@@ -1,17 +1,17 @@
 -- The contents after s of k steps: the nodes on the stack whose takers' line, in the run of k steps, does not stand at s or before; and how
 -- each sort of step changes them. Assumes nothing.
-use mathlib.Core.Path.{_≡_, refl, sym, ap, subst, _∙_}
+use mathlib.Core.Path.{_≡_, sym, ap, subst, _∙_}
 use mathlib.Core.Logic.{_≢_, _⊎_, inl, inr}
-use Prim.Native.Nat.{ℕ, zero, suc, _≤_, _<_}
+use Prim.Native.Nat.{ℕ, suc, _≤_, _<_}
 use mathlib.Core.Bool.{Bool, true, false}
 use mathlib.Core.List.{List, [], _∷_, List·Memᴰ, Memᴰ·cast}
 use mathlib.Core.List.List·Memᴰ.{List·Memᴰ·head, List·Memᴰ·tail}
 use native.Mathlib.Omega.{arith}
 use Rattle.basics.specs.Choice.{pick, same, less}
-use Rattle.basics.proofs.Choice.{split, both, pick-then, pick-else, equal-same, unequal-same, less-lt, less-le, lt-less, le-less}
+use Rattle.basics.proofs.Choice.{split, compare, pick-then, pick-else, equal-same, unequal-same, lt-less, le-less}
 use Rattle.job.specs.declared.Kind.the-variants.{Stack}
 use Rattle.job.specs.Job.{Job}
-use Rattle.machine.specs.declared.Event.the-variants.{Quiet, Round, Linked, Raised}
+use Rattle.machine.specs.declared.Event.the-variants.{Round}
 use Rattle.machine.specs.Journal.{note, link}
 use Rattle.machine.specs.Effects.{sift, latest-start}
 use Rattle.machine.specs.Left.{left, left-in}
@@ -22,7 +22,7 @@ use Rattle.machine.proofs.Stack.Raised.{raised, raised-le, raised-stays
 use Rattle.machine.proofs.Stack.Steps.{Pushes, Pops}
 use Rattle.machine.proofs.Stack.Keeps.{keeps}
 use Rattle.machine.proofs.Stack.Chain.{distinct-first, on-stack, stack-fresh, stack-distinct, stack-puts, stack-none, stack-top, stack-pushed, stack-popped, stack-stays, stack-walk}
-use Rattle.machine.proofs.Stack.Takers.{TakersLine, takers-line, raised-has-line, marked-has-line, line-marked}
+use Rattle.machine.proofs.Stack.Takers.{takers-line, raised-has-line, line-marked}
 
 -- a line at step `line` (0: none) does not stand at s or before
 unfoldable pub not-yet : ℕ → ℕ → Bool
@@ -42,12 +42,12 @@ already s n h = pick-else _ _ (unequal-same n) ∙ le-less h
 
 -- one more step, which is not that line's
 pub not-yet-kept : (s line : ℕ) → line ≢ suc s → not-yet (suc s) line ≡ not-yet s line
-not-yet-kept s line n = go (split line 0) (both (less s line))
+not-yet-kept s line n = go (split line 0) (compare line s)
   where
-    go : (line ≡ 0) ⊎ (line ≢ 0) → (less s line ≡ true) ⊎ (less s line ≡ false) → not-yet (suc s) line ≡ not-yet s line
+    go : (line ≡ 0) ⊎ (line ≢ 0) → (line ≤ s) ⊎ (s < line) → not-yet (suc s) line ≡ not-yet s line
     go (inl z) b = not-yet-none (suc s) z ∙ sym (not-yet-none s z)
-    go (inr m) (inl b) = let h : s < line = less-lt b in not-yet-later (suc s) (omega arith) ∙ sym (not-yet-later s h)
-    go (inr m) (inr b) = let h : line ≤ s = less-le b in already (suc s) m (omega arith) ∙ sym (already s m h)
+    go (inr m) (inl h) = already (suc s) m (omega arith) ∙ sym (already s m h)
+    go (inr m) (inr h) = not-yet-later (suc s) (omega arith) ∙ sym (not-yet-later s h)
 
 -- a sift of a list with one more node in front
 pub sift-keeps : (f : ℕ → Bool) (x : ℕ) (l : List ℕ) → f x ≡ true → sift f (x ∷ l) ≡ x ∷ sift f l
@@ -100,7 +100,7 @@ module _ (j : Job) (is-stack : j .object ≡ Stack) (k : ℕ) where
   -- a node that is linked now has its line later
   new-still : (s o : ℕ) → NoLine s → Pushes j s o → still (suc s) o ≡ true
   unfolding still
-  new-still s o none p = go (split (latest-start j k o) 0) (both (less s (latest-start j k o)))
+  new-still s o none p = go (split (latest-start j k o) 0) (compare (latest-start j k o) s)
     where
       some : o ≢ 0
       some z = omega (arith, p .operation .from-one)
@@ -112,10 +112,10 @@ module _ (j : Job) (is-stack : j .object ≡ Stack) (k : ℕ) where
           let linked : link j (latest-start j k o) o ≢ 0 = stack-puts j is-stack (latest-start j k o) o (subst (List·Memᴰ o) (sym (first .1)) (List·Memᴰ·head (sym top))) .linked in
           linked (sym (link-stays j (latest-start j k o) o s h linked) ∙ p .unlinked)
 
-      go : (latest-start j k o ≡ 0) ⊎ (latest-start j k o ≢ 0) → (less s (latest-start j k o) ≡ true) ⊎ (less s (latest-start j k o) ≡ false) → not-yet (suc s) (latest-start j k o) ≡ true
+      go : (latest-start j k o ≡ 0) ⊎ (latest-start j k o ≢ 0) → (latest-start j k o ≤ s) ⊎ (s < latest-start j k o) → not-yet (suc s) (latest-start j k o) ≡ true
       go (inl z) b = not-yet-none (suc s) z
-      go (inr n) (inl b) = let h : s < latest-start j k o = less-lt b in let d : latest-start j k o ≢ suc s = none o some in not-yet-later (suc s) (omega arith)
-      go (inr n) (inr b) = absurd (too-early n (less-le b))
+      go (inr n) (inl h) = absurd (too-early n h)
+      go (inr n) (inr h) = let d : latest-start j k o ≢ suc s = none o some in not-yet-later (suc s) (omega arith)
 
   pub contents-pushed : (s o : ℕ) → NoLine s → Pushes j s o → contents (suc s) ≡ o ∷ contents s
   unfolding contents

@@ -1,6 +1,6 @@
 -- What an operation on the stack did, and what it holds by that: a taker saw its node as Top at its last R1, one that answers empty saw
 -- none. Assumes nothing.
-use mathlib.Core.Path.{_≡_, refl, sym, ap, subst, _∙_}
+use mathlib.Core.Path.{_≡_, sym, subst, _∙_}
 use mathlib.Core.Logic.{_≢_, _⊎_, inl, inr}
 use Prim.Native.Nat.{ℕ}
 use native.Mathlib.Omega.{arith}
@@ -9,12 +9,12 @@ use Rattle.job.specs.Job.{Job}
 use Rattle.machine.specs.declared.Row.{Row}
 use Rattle.machine.specs.declared.Row.the-variants.{Q1, Q2, Q3, Q4, Q5, T1, T2, T3, T4, T5, P1, P2, P3, P4, R1, R2, R3, R4, R5, Done, ItemN, ItemT, Empty}
 use Rattle.machine.specs.Access.{Registers}
-use Rattle.machine.specs.Journal.{Answer, start, join, taken, answer}
+use Rattle.machine.specs.Journal.{Answer, start, taken, answer}
 use Rattle.machine.specs.Explained.{Operation}
 use Rattle.machine.proofs.Operations.{memory, local}
 use Rattle.machine.proofs.Life.{OfObject, LifeAt, Deeds, deeds, HasJoined, of-object, life}
 use Rattle.machine.proofs.Stack.Raised.{raised}
-use Rattle.machine.proofs.Stack.Rows.{Known, nothing, marked, seen, clear, taking, bare, known, Held, Holds, HoldsOf}
+use Rattle.machine.proofs.Stack.Rows.{Known, nothing, taking, bare, known, Held, Holds}
 use Rattle.machine.proofs.Stack.Keeps.{keeps}
 
 -- by what is known at its row: an operation took and answered nothing, or is done, or took the node that it has, or answered empty

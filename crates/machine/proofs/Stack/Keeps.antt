@@ -2,7 +2,7 @@
 -- step is one of the five sorts. Assumes nothing.
 use mathlib.Core.Path.{_≡_, refl, sym, ap, subst, _∙_}
 use mathlib.Core.Logic.{_≢_, _⊎_, inl, inr}
-use Prim.Native.Nat.{ℕ, zero, suc, _≤_, _<_}
+use Prim.Native.Nat.{ℕ, zero, suc}
 use mathlib.Core.Bool.{Bool, true, false, true≢false}
 use native.Mathlib.Omega.{arith}
 use Rattle.basics.specs.Maps.{upd}
@@ -12,7 +12,7 @@ use Rattle.job.specs.declared.Kind.{Kind}
 use Rattle.job.specs.declared.Kind.the-variants.{Queue, Stack}
 use Rattle.job.specs.Job.{Job}
 use Rattle.machine.specs.declared.Event.{Event}
-use Rattle.machine.specs.declared.Event.the-variants.{Quiet, Round, Linked, Raised}
+use Rattle.machine.specs.declared.Event.the-variants.{Round, Raised}
 use Rattle.machine.specs.Memory.{fresh-memory}
 use Rattle.machine.specs.Table.{first-row}
 use Rattle.machine.specs.Run.{state-after, fresh-state}
@@ -24,7 +24,7 @@ use Rattle.machine.proofs.Turn.{turned}
 use Rattle.machine.proofs.Life.{OfObject, of-object, life}
 use Rattle.machine.proofs.Stack.Raised.{is-raise, raised, raised-zero, raised-least, raised-kept, raised-later}
 use Rattle.machine.proofs.Stack.Rows.{known, Holds, HoldsOf, holds-kept, own-holds}
-use Rattle.machine.proofs.Stack.Steps.{Happens, Rests, Pushes, Pops, Raises, Begins, rests, pushes, pops, raises, begins, happens-by}
+use Rattle.machine.proofs.Stack.Steps.{Happens, rests, pushes, pops, raises, begins, happens-by}
 
 pub record Keeps (j : Job) (k : ℕ) : Type 0 where
   pub raised-marked : (t : ℕ) → raised j k t ≢ 0 → memory j k .mark t ≢ 0

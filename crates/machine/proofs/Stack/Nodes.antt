@@ -1,13 +1,12 @@
 -- The nodes from Top down through the nexts, as a list: what a change of one next or of Top does to it, and that a long enough walk
 -- finds it. Assumes nothing.
-use mathlib.Core.Path.{_≡_, refl, sym, ap, subst, _∙_}
+use mathlib.Core.Path.{_≡_, refl, sym, ap, subst}
 use mathlib.Core.Logic.{_≢_}
 use Prim.Native.Nat.{ℕ, zero, suc, _≤_}
 use mathlib.Core.List.{List, [], _∷_, List·Memᴰ}
 use mathlib.Core.List.List·Memᴰ.{List·Memᴰ·head, List·Memᴰ·tail}
 use native.Mathlib.Omega.{arith}
 use lib.ListN.{length}
-use Rattle.basics.specs.Choice.{pick, same}
 use Rattle.basics.specs.Maps.{upd}
 use Rattle.basics.proofs.Choice.{pick-true, pick-false, equal-same, unequal-same}
 use Rattle.basics.proofs.Maps.{upd-there}

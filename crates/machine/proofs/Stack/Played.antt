@@ -1,19 +1,19 @@
 -- The line at every step turns the contents before it into those after it. Assumes nothing.
-use mathlib.Core.Path.{_≡_, refl, sym, ap, subst, _∙_}
+use mathlib.Core.Path.{_≡_, sym, ap, subst, _∙_}
 use mathlib.Core.Logic.{_≢_, _⊎_, inl, inr}
 use Prim.Native.Nat.{ℕ, suc, _≤_, _<_}
-use mathlib.Core.Bool.{true, false, _&&_}
-use mathlib.Core.List.{List, [], _∷_, List·Memᴰ}
+use mathlib.Core.Bool.{true}
+use mathlib.Core.List.{List, [], _∷_}
 use native.Mathlib.Omega.{arith}
 use Rattle.basics.proofs.Choice.{split, equal-same}
 use Rattle.job.specs.declared.Kind.{Kind}
 use Rattle.job.specs.declared.Kind.the-variants.{Stack}
 use Rattle.job.specs.Job.{Job}
 use Rattle.machine.specs.declared.Event.{Event}
-use Rattle.machine.specs.declared.Event.the-variants.{Quiet, Round, Linked, Raised}
+use Rattle.machine.specs.declared.Event.the-variants.{Round}
 use Rattle.machine.specs.Multiplicity.{add}
 use Rattle.machine.specs.Journal.{Answer, note, is-answer, is-round, made, begins-round, ends, last, answer, start, taken}
-use Rattle.machine.specs.Effects.{takers, latest-start}
+use Rattle.machine.specs.Effects.{latest-start}
 use Rattle.machine.specs.Record.{line-at}
 use Rattle.machine.specs.Explained.{Operation}
 use Rattle.machine.proofs.Searches.{earliest-least, latest-greatest}
@@ -23,7 +23,7 @@ use Rattle.machine.proofs.Life.{made-to-last}
 use Rattle.machine.proofs.Lines.{Lineless, StepOf, start-step, taker-in, line-of-none, line-of-link, line-of-empty, line-of-top, line-of-stack-round}
 use Rattle.machine.proofs.Laws.{Applies}
 use Rattle.machine.proofs.Applies.{applies-none, applies-put, applies-empty, applies-takes}
-use Rattle.machine.proofs.Stack.Steps.{Happens, Rests, Pushes, Pops, Raises, Begins, rests, pushes, pops, raises, begins}
+use Rattle.machine.proofs.Stack.Steps.{Happens, Begins, rests, pushes, pops, raises, begins}
 use Rattle.machine.proofs.Stack.Keeps.{happens}
 use Rattle.machine.proofs.Stack.Deeds.{empty-read-none}
 use Rattle.machine.proofs.Stack.Takers.{TakersLine, takers-line}

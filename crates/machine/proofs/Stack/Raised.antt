@@ -1,5 +1,5 @@
 -- The first R3 on a node, and what one more step does to it. Assumes nothing.
-use mathlib.Core.Path.{_≡_, refl, sym, ap, subst, _∙_}
+use mathlib.Core.Path.{_≡_, sym, ap}
 use mathlib.Core.Logic.{_≢_, _⊎_, inl, inr}
 use Prim.Native.Nat.{ℕ, suc, _≤_, _<_}
 use mathlib.Core.Bool.{Bool, true, false, true≢false}
@@ -9,7 +9,7 @@ use Rattle.basics.proofs.Choice.{split, same-equal, same-refl}
 use Rattle.job.specs.Job.{Job}
 use Rattle.machine.specs.declared.Event.{Event}
 use Rattle.machine.specs.declared.Event.the-variants.{Quiet, Round, Linked, Moved, Late, Raised}
-use Rattle.machine.specs.Journal.{note, earliest, item-of}
+use Rattle.machine.specs.Journal.{note, earliest}
 use Rattle.machine.proofs.Searches.{earliest-zero, earliest-le, earliest-meets, earliest-least, earliest-kept, earliest-stays, earliest-after}
 
 -- is it an R3 on node t?

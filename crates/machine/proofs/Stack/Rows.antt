@@ -1,9 +1,9 @@
 -- What is known of an operation by its row on the stack: that its node is marked, that Top was its node at its last R1, that it read the
 -- mark clear after that, or that Top was none. Nothing known is lost by a step of another. Assumes nothing.
-use mathlib.Core.Path.{_≡_, refl, sym, ap, subst, _∙_}
-use mathlib.Core.Logic.{_≢_, _⊎_, inl, inr}
-use Prim.Native.Nat.{ℕ, suc, _≤_, _<_}
-use mathlib.Core.Bool.{true, false, true≢false}
+use mathlib.Core.Path.{_≡_, refl, sym, _∙_}
+use mathlib.Core.Logic.{_≢_}
+use Prim.Native.Nat.{ℕ, _<_}
+use mathlib.Core.Bool.{true, false}
 use native.Mathlib.Omega.{arith}
 use Rattle.basics.proofs.Maps.{upd-here}
 use Rattle.job.specs.declared.Kind.the-variants.{Stack}

@@ -1,9 +1,7 @@
 -- The steps of a stack by what they do to its memory: five sorts. Later proofs go by these and not by the rows. Assumes nothing.
-use mathlib.Core.Path.{_≡_, refl, sym, ap, subst, _∙_}
+use mathlib.Core.Path.{_≡_, sym, ap, subst, _∙_}
 use mathlib.Core.Logic.{_≢_}
 use Prim.Native.Nat.{ℕ, suc}
-use mathlib.Core.Bool.{true, false}
-use native.Mathlib.Omega.{arith}
 use Rattle.basics.specs.Maps.{upd}
 use Rattle.job.specs.declared.Kind.the-variants.{Stack}
 use Rattle.job.specs.Job.{Job}
@@ -15,7 +13,7 @@ use Rattle.machine.specs.Explained.{Operation}
 use Rattle.machine.proofs.Operations.{Local, memory}
 use Rattle.machine.proofs.Turn.{Turn}
 use Rattle.machine.proofs.Turn.Turn.{q1, q2-last, q2-more, q3-links, q3-fails, q4-moves, q4-stays, q5-moves, q5-stays, t1, t2, t3-empty, t3-helps, t3-goes, t4-moves, t4-stays, t5-moves, t5-late, p1-none, p1-some, p2-clear, p2-raised, p3-pushes, p3-fails, p4-moves, p4-stays, r1-none, r1-some, r2-clear, r2-raised, r3, r4-moves, r4-stays, r5-moves, r5-stays}
-use Rattle.machine.proofs.Life.{OfObject, LifeAt, Deeds, deeds}
+use Rattle.machine.proofs.Life.{OfObject, LifeAt, deeds}
 use Rattle.machine.proofs.Stack.Rows.{known, Holds}
 
 -- step k + 1 leaves memory as it is and is no R1

@@ -1,16 +1,15 @@
 -- The takers of a node and where their line stands: at the latest of their last R1 steps, which is before the first R3 on the node; Top was the
 -- node then; and a node has takers exactly if it is marked. Assumes nothing.
 use mathlib.Core.Path.{_≡_, refl, sym, ap, subst, _∙_}
-use mathlib.Core.Logic.{_≢_, _⊎_, inl, inr}
+use mathlib.Core.Logic.{_≢_}
 use Prim.Native.Nat.{ℕ, zero, suc, _≤_, _<_}
-use mathlib.Core.Bool.{true, false, not, _&&_}
+use mathlib.Core.Bool.{true, not}
 use mathlib.Core.List.{List·Memᴰ}
 use native.Mathlib.Omega.{arith}
-use Rattle.basics.specs.Choice.{same}
 use Rattle.basics.proofs.Choice.{equal-same, unequal-same}
 use Rattle.job.specs.declared.Kind.the-variants.{Stack}
 use Rattle.job.specs.Job.{Job}
-use Rattle.machine.specs.declared.Event.the-variants.{Quiet, Round, Linked, Raised}
+use Rattle.machine.specs.declared.Event.the-variants.{Round, Raised}
 use Rattle.machine.specs.Journal.{note, item-of, made, joins, start, join, taken}
 use Rattle.machine.specs.Effects.{takers, latest-start}
 use Rattle.machine.specs.Explained.{Operation}
@@ -20,7 +19,7 @@ use Rattle.machine.proofs.Operations.{memory}
 use Rattle.machine.proofs.Life.{deeds, joins-once}
 use Rattle.machine.proofs.Lines.{StepOf, start-step, taker-in, taker-out}
 use Rattle.machine.proofs.Stack.Raised.{raised, raised-le, raised-event, raised-least}
-use Rattle.machine.proofs.Stack.Steps.{Happens, Rests, Pushes, Pops, Raises, Begins, rests, pushes, pops, raises, begins}
+use Rattle.machine.proofs.Stack.Steps.{Happens, Raises, rests, pushes, pops, raises, begins}
 use Rattle.machine.proofs.Stack.Keeps.{keeps, happens}
 use Rattle.machine.proofs.Stack.Deeds.{Taker, taker-of}
 
