@@ -15,6 +15,7 @@ use Rattle.machine.specs.Journal.{note, item-of, is-round, is-linked, start, li
 use Rattle.machine.specs.Effects.{takes-at}
 use Rattle.machine.specs.Explained.{Operation}
 use Rattle.machine.proofs.Operations.{Idles, Acts}
+use Rattle.machine.proofs.Operations.Locals.{actor}
 use Rattle.machine.proofs.Stamps.{start-other, start-unless, start-new, link-other, link-unless, link-new, taken-other, taken-unless, taken-new}
 use Rattle.machine.proofs.Life.{operation-some}
 use Rattle.machine.proofs.Life.Progress.{Going, deeds}
@@ -30,17 +31,17 @@ module _ (j : Job) where
         start-at = λ o op. a .start-at o op ∙ sym (start-other j k o (stranger op));
         link-at = λ o op. a .link-at o op ∙ sym (link-other j k o (stranger op));
         taken-at = λ o op. a .taken-at o op ∙ sym (taken-other j k o (stranger op));
-        stands-at = λ o op. a .stands-at o op ∙ sym (stands-idle j k o idle (operation-some op))
+        stands-at = λ o op. a .stands-at o op ∙ sym (stands-idle j k o idle (operation-some op));
       }
     where
-      stranger : {o : ℕ} → Operation j o → note j (suc k) .by ≢ o
+      stranger : {o : ℕ} → Operation j o → actor j (suc k) ≢ o
       stranger op e = operation-some op (sym e ∙ idle .nobody)
 
   module _ (k o : ℕ) (acts : Acts j k o) (c : Cells) (a : Agrees j k c) where
     abbrev heard : Event
     heard = note j (suc k) .event
 
-    other : {q : ℕ} → q ≢ o → note j (suc k) .by ≢ q
+    other : {q : ℕ} → q ≢ o → actor j (suc k) ≢ q
     other n e = n (sym e ∙ acts .actor-is)
 
     -- a map that a step does not touch
@@ -110,10 +111,10 @@ module _ (j : Job) where
         let own : Operation j o = record { from-one = acts .from-one; to-count = acts .to-count } in
         upd-elim (λ x. x ≡ takes-at (j .object) j (suc k) item) (c .stands) t (max (c .stands t) (c .start o)) item
         (λ here.
-          let node : Operation j t = subst (Operation j) here op in
-          (λ i. max (a .stands-at t node i) (a .start-at o own i))
-          ∙ sym (stands-raised j k o acts t e (operation-some node))
-          ∙ ap (takes-at (j .object) j (suc k)) (sym here))
+        let node : Operation j t = subst (Operation j) here op in
+        (λ i. max (a .stands-at t node i) (a .start-at o own i))
+        ∙ sym (stands-raised j k o acts t e (operation-some node))
+        ∙ ap (takes-at (j .object) j (suc k)) (sym here))
         (λ there. stands-kept item op (λ q. there (sym q ∙ ap item-of e)))
 
     late-kept : (n : ℕ) → heard ≡ Late n → (item : ℕ) → Operation j item → (item ≡ n) ⊎ (item ≢ n) → c .stands item ≡ takes-at (j .object) j (suc k) item
@@ -131,42 +132,42 @@ module _ (j : Job) where
           start-at = start-kept (ap is-round e);
           link-at = link-kept (ap is-linked e);
           taken-at = taken-kept (ap item-of e);
-          stands-at = λ item op. stands-kept item op (λ q. operation-some op (sym q ∙ ap item-of e))
+          stands-at = λ item op. stands-kept item op (λ q. operation-some op (sym q ∙ ap item-of e));
         }
     kept-by Round e =
         record {
           start-at = start-stored e;
           link-at = link-kept (ap is-linked e);
           taken-at = taken-kept (ap item-of e);
-          stands-at = λ item op. stands-kept item op (λ q. operation-some op (sym q ∙ ap item-of e))
+          stands-at = λ item op. stands-kept item op (λ q. operation-some op (sym q ∙ ap item-of e));
         }
     kept-by Linked e =
         record {
           start-at = start-kept (ap is-round e);
           link-at = link-stored e;
           taken-at = taken-kept (ap item-of e);
-          stands-at = λ item op. stands-kept item op (λ q. operation-some op (sym q ∙ ap item-of e))
+          stands-at = λ item op. stands-kept item op (λ q. operation-some op (sym q ∙ ap item-of e));
         }
     kept-by (Moved n) e =
         record {
           start-at = start-kept (ap is-round e);
           link-at = link-kept (ap is-linked e);
           taken-at = taken-stored n (subst Sounding (sym e) tt) (ap item-of e);
-          stands-at = moved-stored n e
+          stands-at = moved-stored n e;
         }
     kept-by (Late n) e =
         record {
           start-at = start-kept (ap is-round e);
           link-at = link-kept (ap is-linked e);
           taken-at = taken-stored n (subst Sounding (sym e) tt) (ap item-of e);
-          stands-at = λ item op. late-kept n e item op (split item n)
+          stands-at = λ item op. late-kept n e item op (split item n);
         }
     kept-by (Raised t) e =
         record {
           start-at = start-kept (ap is-round e);
           link-at = link-kept (ap is-linked e);
           taken-at = taken-stored t (subst Sounding (sym e) tt) (ap item-of e);
-          stands-at = raised-stored t e
+          stands-at = raised-stored t e;
         }
 
     -- the stores of a step keep the journal
