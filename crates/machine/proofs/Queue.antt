@@ -16,7 +16,6 @@ use Rattle.machine.proofs.Laws.{Laws}
 use Rattle.machine.proofs.Queue.Always.{front}
 use Rattle.machine.proofs.Queue.Results.{item-is-node, moved-from-first, moved-to-join, item-moved, moved-by-taker}
 use Rattle.machine.proofs.Queue.Applies.{contents, contents-none, step-applies}
-pub mod Chain
 pub mod Order
 pub mod Memory
 pub mod Keeps

@@ -10,7 +10,7 @@ use Rattle.basics.proofs.Choice.{split}
 use Rattle.basics.proofs.Maps.{upd-here, upd-there, upd-elim}
 use Rattle.machine.specs.declared.Event.{Event}
 use Rattle.machine.specs.declared.Event.the-variants.{Quiet, Round, Linked, Moved, Late, Raised}
-use Rattle.machine.proofs.Queue.Chain.{Chain, Chain.ends, Chain.goes}
+use Rattle.machine.proofs.Stack.Nodes.{Nodes, Nodes.end}
 use Rattle.machine.proofs.Queue.Order.{IsLinked, Order, CanLink}
 
 -- Head, Tail and the nexts; the step that linked a node, and the first that moved Head to it (0: none)
@@ -36,8 +36,9 @@ pub record Ends (k : ℕ) (v : Now) : Type 0 where
 pub record Sound (count k : ℕ) (v : Now) : Type 0 where
   pub order : Order count k (v .next) (v .born)
   pub ends : Ends k v
+  -- the nodes behind Head
   pub contents : List ℕ
-  pub chain : Chain (v .next) (v .head) contents
+  pub nodes : Nodes (v .next) (v .next (v .head)) contents
 
 -- a fresh queue: the sentinel alone is linked
 pub fresh-sound : (count : ℕ) → Sound count 0 (record { head = 0; tail = 0; next = λ i. 0; born = λ i. 0; moved = λ i. 0 })
@@ -66,7 +67,7 @@ fresh-sound count =
             moved-by-now = λ i. omega arith;
           };
       contents = [];
-      chain = ends refl;
+      nodes = end refl;
     }
   where
     sentinel : {i : ℕ} → (i ≢ 0 → _≡_ {A = ℕ} 0 0 → ⊥) → (i ≡ 0) ⊎ (i ≢ 0) → i ≡ 0
