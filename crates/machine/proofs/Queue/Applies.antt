@@ -1,21 +1,20 @@
 -- The line at each step of a queue's run turns the contents before the step into those after it. Assumes nothing.
 use mathlib.Core.Path.{_≡_, refl, sym, ap, subst, subst₂, _∙_}
 use mathlib.Core.Logic.{_≢_, _⊎_, inl, inr}
-use Prim.Native.Nat.{ℕ, zero, suc, _≤_, _<_}
+use Prim.Native.Nat.{ℕ, suc, _<_}
 use mathlib.Core.Bool.{false}
-use mathlib.Core.List.{List, [], _∷_, _++_, List·Memᴰ, List·Memᴰ·not-nil}
+use mathlib.Core.List.{List, [], _∷_, _++_, List·Memᴰ}
 use native.Mathlib.Omega.{arith}
 use Rattle.basics.proofs.Choice.{split}
-use Rattle.job.specs.declared.Kind.{Kind}
 use Rattle.job.specs.declared.Kind.the-variants.{Queue}
 use Rattle.job.specs.Job.{Job}
 use Rattle.machine.specs.declared.Event.{Event}
 use Rattle.machine.specs.declared.Event.the-variants.{Quiet, Round, Linked, Moved, Late, Raised}
 use Rattle.machine.specs.Multiplicity.{add}
-use Rattle.machine.specs.Multiplicity.Line.{put, takes, empty}
-use Rattle.machine.specs.Journal.{Answer, note, answer, start, taken}
+use Rattle.machine.specs.Multiplicity.Line.{empty}
+use Rattle.machine.specs.Journal.{Answer, note, answer, start}
 use Rattle.machine.specs.Effects.{is-empty, takers, first-move}
-use Rattle.machine.specs.Record.{Recorded, line-at}
+use Rattle.machine.specs.Record.{line-at}
 use Rattle.machine.specs.Left.{walk}
 use Rattle.machine.specs.Explained.{Operation}
 use Rattle.machine.proofs.Operations.{actor, memory, Idles, Acts, step-made}
@@ -27,7 +26,8 @@ use Rattle.machine.proofs.Stack.Nodes.{Nodes.end, nodes-walk}
 use Rattle.machine.proofs.Queue.Memory.{Sound, Stamps, change-stamps}
 use Rattle.machine.proofs.Queue.Keeps.{Turns, change-keeps}
 use Rattle.machine.proofs.Queue.Contents.{walk-contents}
-use Rattle.machine.proofs.Queue.Always.{moved, moved-is, now, front, Always, always, step-changes}
+use Rattle.machine.proofs.Queue.Now.{moved, moved-is, now, front}
+use Rattle.machine.proofs.Queue.Always.{always, step-changes}
 use Rattle.machine.proofs.Queue.Results.{empty-found-none, mover-took}
 
 -- the nodes behind Head after s steps

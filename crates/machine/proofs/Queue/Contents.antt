@@ -1,8 +1,8 @@
 -- What is left in the queue's memory is the list behind Head: its nodes are distinct operations, so the walk is long enough. Assumes nothing.
 use mathlib.Core.Path.{_≡_, refl, sym, ap, subst, _∙_}
 use mathlib.Core.Logic.{_≢_, _⊎_, inl, inr}
-use Prim.Native.Nat.{ℕ, zero, suc, _≤_, _<_}
-use mathlib.Core.List.{List, [], _∷_, List·Memᴰ, List·Memᴰ·not-nil, List·Memᴰ·cases-cons}
+use Prim.Native.Nat.{ℕ, _≤_, _<_}
+use mathlib.Core.List.{List, List·Memᴰ, List·Memᴰ·not-nil, List·Memᴰ·cases-cons}
 use native.Mathlib.Omega.{arith}
 use Rattle.machine.specs.Left.{walk}
 use Rattle.machine.proofs.Lists.{Distinct, Distinct.none, Distinct.more, distinct-at-most}

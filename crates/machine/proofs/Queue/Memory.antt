@@ -1,13 +1,13 @@
 -- The queue's memory with the steps that linked its nodes and moved Head to them: what always holds of it, the four changes that a step
 -- makes to it, and that they keep it. Assumes nothing.
-use mathlib.Core.Path.{_≡_, refl, sym, ap, subst, _∙_}
+use mathlib.Core.Path.{_≡_, refl, sym, _∙_}
 use mathlib.Core.Logic.{_≢_, _⊎_, inl, inr}
-use Prim.Native.Nat.{ℕ, zero, suc, _≤_, _<_}
-use mathlib.Core.List.{List, [], _∷_, _++_}
+use Prim.Native.Nat.{ℕ, suc, _≤_}
+use mathlib.Core.List.{List, []}
 use native.Mathlib.Omega.{arith}
 use Rattle.basics.specs.Maps.{upd}
 use Rattle.basics.proofs.Choice.{split}
-use Rattle.basics.proofs.Maps.{upd-here, upd-there, upd-elim}
+use Rattle.basics.proofs.Maps.{upd-here}
 use Rattle.machine.specs.declared.Event.{Event}
 use Rattle.machine.specs.declared.Event.the-variants.{Quiet, Round, Linked, Moved, Late, Raised}
 use Rattle.machine.proofs.Stack.Nodes.{Nodes, Nodes.end}
