@@ -1,8 +1,6 @@
 -- The queue meets the laws. Assumes nothing.
 use mathlib.Core.Path.{_≡_, refl, sym, ap, subst, _∙_}
-use mathlib.Core.Logic.{_≢_}
 use Prim.Native.Nat.{ℕ, _≤_}
-use Rattle.job.specs.declared.Kind.{Kind}
 use Rattle.job.specs.declared.Kind.the-variants.{Queue}
 use Rattle.job.specs.Job.{Job}
 use Rattle.machine.specs.Memory.{fresh-memory}
@@ -10,13 +8,11 @@ use Rattle.machine.specs.Run.{fresh-state, state-after}
 use Rattle.machine.specs.Journal.{note, first, join, taken}
 use Rattle.machine.specs.Effects.{first-move, takes-at}
 use Rattle.machine.specs.Left.{left-in, left}
-use Rattle.machine.specs.Explained.{Operation}
 use Rattle.machine.proofs.Operations.{memory}
 use Rattle.machine.proofs.Laws.{Laws}
-use Rattle.machine.proofs.Queue.Always.{front}
+use Rattle.machine.proofs.Queue.Now.{front}
 use Rattle.machine.proofs.Queue.Results.{item-is-node, moved-from-first, moved-to-join, item-moved, moved-by-taker}
 use Rattle.machine.proofs.Queue.Applies.{contents, contents-none, step-applies}
-pub mod Chain
 pub mod Order
 pub mod Memory
 pub mod Keeps
@@ -24,6 +20,7 @@ pub mod Grows
 pub mod Rows
 pub mod Steps
 pub mod Contents
+pub mod Now
 pub mod Always
 pub mod Results
 pub mod Applies

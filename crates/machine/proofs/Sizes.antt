@@ -23,6 +23,7 @@ use Rattle.machine.specs.Explained.{members, Says, Answered, Operation, 
 use Rattle.machine.specs.Report.{centimetres, object-line, action-text, answer-text, progress-text, operation-line, operation-lines, spaced, effect-text, record-line, record-lines, left-line, report}
 use Rattle.machine.proofs.Stamps.{first-le, last-le}
 use Rattle.machine.proofs.Explains.Steps.{Placed, placed}
+use Rattle.machine.proofs.Theorem.{explained}
 use Rattle.machine.proofs.Sizes.Items.{Sound, handed-out}
 use Rattle.machine.proofs.Sizes.Members.{all-members, sound-members, members-count, line-sound, left-operation, left-count}
 pub mod Items
@@ -133,7 +134,11 @@ module _ (j : Job) (fits : Fits j) where
     left-line-length =
         simp length-append (omega (arith, left-count j (j .steps) ex, decimal-length 2 (length (left j (j .steps))) (omega (arith, left-count j (j .steps) ex, fits .operations)), spaced-length (left j (j .steps)) (λ x m. omega (arith, fits .operations, left-operation j (j .steps) ex x m))))
 
-    report-length : length (report j) ≤ 22 + 100 * j .count
+    pub report-length : length (report j) ≤ 22 + 100 * j .count
     unfolding report
     report-length =
         simp length-append (omega (arith, object-length (j .object), operation-lines-length (j .count) (omega arith), record-lines-length (the-record j (j .steps)) (λ r m. m), members-count j (j .steps) ex, left-line-length))
+
+-- the report of any job with such numbers
+pub report-bounded : (j : Job) → Fits j → length (report j) ≤ 22 + 100 * most-operations
+report-bounded j fits = omega (arith, report-length j fits (explained j (j .steps)), fits .operations)

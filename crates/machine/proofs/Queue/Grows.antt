@@ -2,11 +2,10 @@
 -- only go on. Assumes nothing.
 use mathlib.Core.Path.{_≡_, refl, sym, ap, subst, _∙_}
 use mathlib.Core.Logic.{_≢_, _⊎_, inl, inr}
-use Prim.Native.Nat.{ℕ, zero, suc, _≤_, _<_}
+use Prim.Native.Nat.{ℕ, suc, _≤_, _<_}
 use native.Mathlib.Omega.{arith}
-use Rattle.basics.specs.Maps.{upd}
 use Rattle.basics.proofs.Choice.{split}
-use Rattle.basics.proofs.Maps.{upd-here, upd-there, upd-elim}
+use Rattle.basics.proofs.Maps.{upd-there, upd-elim}
 use Rattle.machine.specs.declared.Event.{Event}
 use Rattle.machine.proofs.Queue.Order.{IsLinked, link-keeps-born, link-keeps-linked, link-keeps-next}
 use Rattle.machine.proofs.Queue.Memory.{Now, Sound, Change, Change.stays, Change.links, Change.tail-moves, Change.head-moves}

@@ -1,7 +1,7 @@
 -- Every change keeps what always holds of the queue's memory, and turns its contents as the step's event says. Assumes nothing.
 use mathlib.Core.Path.{_≡_, refl, sym, ap, subst, _∙_}
 use mathlib.Core.Logic.{_≢_, _⊎_, inl, inr}
-use Prim.Native.Nat.{ℕ, zero, suc, _≤_, _<_}
+use Prim.Native.Nat.{ℕ, suc, _≤_}
 use mathlib.Core.List.{List, [], _∷_, _++_}
 use native.Mathlib.Omega.{arith}
 use Rattle.basics.specs.Maps.{upd}
@@ -9,8 +9,8 @@ use Rattle.basics.proofs.Choice.{split}
 use Rattle.basics.proofs.Maps.{upd-here, upd-there, upd-elim}
 use Rattle.machine.specs.declared.Event.{Event}
 use Rattle.machine.specs.declared.Event.the-variants.{Quiet, Round, Linked, Moved, Late, Raised}
-use Rattle.machine.proofs.Queue.Chain.{Chain, Chain.ends, Chain.goes}
-use Rattle.machine.proofs.Queue.Order.{IsLinked, Order, CanLink, order-later, link-keeps-order, link-keeps-born, link-keeps-linked, link-keeps-next, link-lengthens}
+use Rattle.machine.proofs.Stack.Nodes.{Nodes, nodes-first}
+use Rattle.machine.proofs.Queue.Order.{IsLinked, CanLink, order-later, link-keeps-order, link-keeps-born, link-keeps-linked, link-lengthens}
 use Rattle.machine.proofs.Queue.Memory.{Now, Ends, Sound, Still, Still.quiet, Still.round, Still.late, Change, Change.stays, Change.links, Change.tail-moves, Change.head-moves}
 
 -- the contents after a step, by its event: a link adds at the back, a move of Head removes the front, nothing else changes them
@@ -95,21 +95,16 @@ module _ {count k : ℕ} {v : Now} (d : Sound count k v) where
       behind i b c e (inl f) = d .ends .behind-moved i b f
       behind i b c e (inr f) = absurd (e (d .order .born-apart i (v .next (v .head)) (λ n. b) (λ n. d .order .to-linked (v .head) m) (omega arith)))
 
--- the contents without their front
-chain-behind : {next : ℕ → ℕ} {i n : ℕ} {l : List ℕ} → Chain next i l → next i ≡ n → n ≢ 0 → (r : List ℕ) × Chain next n r × (l ≡ n ∷ r)
-chain-behind (ends e) f m = absurd (m (sym f ∙ e))
-chain-behind {next} {n} (goes {n = x} {l = r} e d c) f m =
-    let same : x ≡ n = sym e ∙ f in
-    (r, subst (λ y. Chain next y r) same c, ap (λ y. y ∷ r) same)
-
+-- a change keeps it all, and turns the contents by its event
 pub change-keeps : {count k o : ℕ} {v w : Now} {e : Event} → Change count k o v e w → (d : Sound count k v) → (f : Sound count (suc k) w) × Turns o e (d .contents) (f .contents)
-change-keeps {o} (stays s) d = (record { order = order-later (d .order); ends = ends-later (d .ends); contents = d .contents; chain = d .chain }, still-turns o (d .contents) s)
+change-keeps {o} (stays s) d =
+    (record { order = order-later (d .order); ends = ends-later (d .ends); contents = d .contents; nodes = d .nodes }, still-turns o (d .contents) s)
 change-keeps {o} (links b) d = (
   record {
     order = link-keeps-order (d .order) b;
     ends = link-keeps-ends d b;
     contents = d .contents ++ (o ∷ []);
-    chain = link-lengthens (d .order) b (d .chain) (d .ends .head-linked);
+    nodes = link-lengthens (d .order) b (d .nodes) refl (d .ends .head-linked);
   },
   refl,
 )
@@ -118,17 +113,18 @@ change-keeps {k} {v} (tail-moves {n = n} e m) d = (
     order = order-later (d .order);
     ends = subst (λ x. Ends (suc k) (record { head = v .head; tail = x; next = v .next; born = v .born; moved = v .moved })) e (tail-keeps-ends d (λ z. m (sym e ∙ z)));
     contents = d .contents;
-    chain = d .chain;
+    nodes = d .nodes;
   },
   refl,
 )
 change-keeps {k} {v} (head-moves {n = n} e m h) d =
-    let behind : (r : List ℕ) × Chain (v .next) n r × (d .contents ≡ n ∷ r) = chain-behind (d .chain) e m in (
+    let some : v .next (v .head) ≢ 0 = λ z. m (sym e ∙ z) in
+    let behind : (r : List ℕ) × (d .contents ≡ v .next (v .head) ∷ r) × Nodes (v .next) (v .next (v .next (v .head))) r = nodes-first (d .nodes) some in (
       record {
         order = order-later (d .order);
-        ends = subst (λ x. Ends (suc k) (record { head = x; tail = v .tail; next = v .next; born = v .born; moved = upd (v .moved) x (suc k) })) e (head-keeps-ends d (λ z. m (sym e ∙ z)) (subst (λ x. v .born x ≤ v .born (v .tail)) (sym e) h));
+        ends = subst (λ x. Ends (suc k) (record { head = x; tail = v .tail; next = v .next; born = v .born; moved = upd (v .moved) x (suc k) })) e (head-keeps-ends d some (subst (λ x. v .born x ≤ v .born (v .tail)) (sym e) h));
         contents = behind .0;
-        chain = behind .1;
+        nodes = subst (λ x. Nodes (v .next) (v .next x) (behind .0)) e (behind .2);
       },
-      behind .2,
+      behind .1 ∙ ap (λ x. x ∷ behind .0) e,
     )

@@ -1,16 +1,16 @@
 -- The queue's memory with the steps that linked its nodes and moved Head to them: what always holds of it, the four changes that a step
 -- makes to it, and that they keep it. Assumes nothing.
-use mathlib.Core.Path.{_≡_, refl, sym, ap, subst, _∙_}
+use mathlib.Core.Path.{_≡_, refl, sym, _∙_}
 use mathlib.Core.Logic.{_≢_, _⊎_, inl, inr}
-use Prim.Native.Nat.{ℕ, zero, suc, _≤_, _<_}
-use mathlib.Core.List.{List, [], _∷_, _++_}
+use Prim.Native.Nat.{ℕ, suc, _≤_}
+use mathlib.Core.List.{List, []}
 use native.Mathlib.Omega.{arith}
 use Rattle.basics.specs.Maps.{upd}
 use Rattle.basics.proofs.Choice.{split}
-use Rattle.basics.proofs.Maps.{upd-here, upd-there, upd-elim}
+use Rattle.basics.proofs.Maps.{upd-here}
 use Rattle.machine.specs.declared.Event.{Event}
 use Rattle.machine.specs.declared.Event.the-variants.{Quiet, Round, Linked, Moved, Late, Raised}
-use Rattle.machine.proofs.Queue.Chain.{Chain, Chain.ends, Chain.goes}
+use Rattle.machine.proofs.Stack.Nodes.{Nodes, Nodes.end}
 use Rattle.machine.proofs.Queue.Order.{IsLinked, Order, CanLink}
 
 -- Head, Tail and the nexts; the step that linked a node, and the first that moved Head to it (0: none)
@@ -36,8 +36,9 @@ pub record Ends (k : ℕ) (v : Now) : Type 0 where
 pub record Sound (count k : ℕ) (v : Now) : Type 0 where
   pub order : Order count k (v .next) (v .born)
   pub ends : Ends k v
+  -- the nodes behind Head
   pub contents : List ℕ
-  pub chain : Chain (v .next) (v .head) contents
+  pub nodes : Nodes (v .next) (v .next (v .head)) contents
 
 -- a fresh queue: the sentinel alone is linked
 pub fresh-sound : (count : ℕ) → Sound count 0 (record { head = 0; tail = 0; next = λ i. 0; born = λ i. 0; moved = λ i. 0 })
@@ -66,7 +67,7 @@ fresh-sound count =
             moved-by-now = λ i. omega arith;
           };
       contents = [];
-      chain = ends refl;
+      nodes = end refl;
     }
   where
     sentinel : {i : ℕ} → (i ≢ 0 → _≡_ {A = ℕ} 0 0 → ⊥) → (i ≡ 0) ⊎ (i ≢ 0) → i ≡ 0

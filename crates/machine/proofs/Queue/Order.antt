@@ -2,13 +2,13 @@
 -- linked; the nexts lead from each linked node to the one born next, and a link at the last keeps that. Assumes nothing.
 use mathlib.Core.Path.{_≡_, refl, sym, ap, subst, _∙_}
 use mathlib.Core.Logic.{_≢_, _⊎_, inl, inr}
-use Prim.Native.Nat.{ℕ, zero, suc, _≤_, _<_}
+use Prim.Native.Nat.{ℕ, suc, _≤_, _<_}
 use mathlib.Core.List.{List, [], _∷_, _++_}
 use native.Mathlib.Omega.{arith}
 use Rattle.basics.specs.Maps.{upd}
 use Rattle.basics.proofs.Choice.{split}
 use Rattle.basics.proofs.Maps.{upd-here, upd-there, upd-elim}
-use Rattle.machine.proofs.Queue.Chain.{Chain, Chain.ends, Chain.goes}
+use Rattle.machine.proofs.Stack.Nodes.{Nodes, Nodes.end, Nodes.node}
 
 -- the sentinel, or a node that a put linked
 abbrev pub IsLinked : (ℕ → ℕ) → ℕ → Type 0
@@ -147,11 +147,14 @@ module _ {count k : ℕ} {next born : ℕ → ℕ} (d : Order count k next born)
       d .born-apart i t l t-linked (omega (arith, d .last i l z t, d .last t t-linked t-last i))
 
   -- the list behind a linked node grows by the new one
-  pub link-lengthens : {i : ℕ} {l : List ℕ} → Chain next i l → IsLinked born i → Chain next′ i (l ++ (o ∷ []))
-  link-lengthens {i} (ends e) li = goes (ap next′ (last-is i li e) ∙ next-new) some (ends next-of-new)
-  link-lengthens {i} (goes {n = n} e m c) li =
-      let has-next : next i ≢ 0 = λ z. m (sym e ∙ z) in
-      goes (link-keeps-next has-next ∙ e) m (link-lengthens c (λ f z. d .to-linked i has-next (ap born e ∙ z)))
+  pub link-lengthens : {i x : ℕ} {l : List ℕ} → Nodes next x l → next i ≡ x → IsLinked born i → Nodes next′ (next′ i) (l ++ (o ∷ []))
+  link-lengthens {i} (end z) e li =
+      let new : next′ i ≡ o = ap next′ (last-is i li (e ∙ z)) ∙ next-new in
+      subst (λ y. Nodes next′ y (o ∷ [])) (sym new) (node some (end next-of-new))
+  link-lengthens {i} (node {i = x} {l = l} n c) e li =
+      let has-next : next i ≢ 0 = λ z. n (sym e ∙ z) in
+      let rest : Nodes next′ (next′ x) (l ++ (o ∷ [])) = link-lengthens c refl (λ f z. d .to-linked i has-next (ap born e ∙ z)) in
+      subst (λ y. Nodes next′ y (x ∷ (l ++ (o ∷ [])))) (sym (link-keeps-next has-next ∙ e)) (node n rest)
 
   link-last : (i : ℕ) → IsLinked born′ i → next′ i ≡ 0 → (x : ℕ) → (i ≡ o) ⊎ (i ≢ o) → born′ x ≤ born′ i
   link-last i l z x (inl e) = omega (arith, ap born′ e, born-new, born-to-next x)

@@ -2,10 +2,9 @@
 -- and not after its T5, and one that answers empty had nothing behind Head at its last T1. Assumes nothing.
 use mathlib.Core.Path.{_≡_, refl, sym, ap, subst, _∙_}
 use mathlib.Core.Logic.{_≢_, _⊎_, inl, inr}
-use Prim.Native.Nat.{ℕ, zero, suc, _≤_, _<_}
-use mathlib.Core.Bool.{Bool, true, false, not, _&&_}
+use Prim.Native.Nat.{ℕ, zero, suc, _≤_}
+use mathlib.Core.Bool.{true}
 use native.Mathlib.Omega.{arith}
-use Rattle.basics.specs.Choice.{same}
 use Rattle.basics.proofs.Choice.{equal-same, unequal-same}
 use Rattle.job.specs.declared.Kind.the-variants.{Queue}
 use Rattle.job.specs.Job.{Job}
@@ -18,11 +17,12 @@ use Rattle.machine.specs.Effects.{first-move}
 use Rattle.machine.specs.Explained.{Operation}
 use Rattle.machine.proofs.Operations.{actor, local, Idles, Acts, step-made}
 use Rattle.machine.proofs.Stamps.{start-le, first-move-le}
-use Rattle.machine.proofs.Life.{Deeds, deeds, LifeAt, life, operation-some, made-acts, made-from-first, joins-once}
+use Rattle.machine.proofs.Life.{Deeds, deeds, LifeAt, life, operation-some, made-from-first, joins-once}
 use Rattle.machine.proofs.Lines.{start-step, first-move-event}
 use Rattle.machine.proofs.Queue.Memory.{Now}
 use Rattle.machine.proofs.Queue.Rows.{Taken, Knows}
-use Rattle.machine.proofs.Queue.Always.{moved, moved-is, now, front, Always, always}
+use Rattle.machine.proofs.Queue.Now.{moved, moved-is, now, front}
+use Rattle.machine.proofs.Queue.Always.{always}
 
 -- an operation took and answered nothing so far, or is done, or has an item, or found none
 data Result (front : ℕ → ℕ) (start join : ℕ) (v : Now) (d : Deeds) : Type 0 where

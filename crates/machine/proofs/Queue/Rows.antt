@@ -1,8 +1,8 @@
 -- By its row, what a queue operation knows of its registers; and that a step of another operation leaves it so. `front s` is the next of
 -- Head after s steps. Assumes nothing.
-use mathlib.Core.Path.{_≡_, refl, sym, ap, subst, _∙_}
+use mathlib.Core.Path.{_≡_, sym, ap, _∙_}
 use mathlib.Core.Logic.{_≢_, _⊎_, inl, inr}
-use Prim.Native.Nat.{ℕ, zero, suc, _≤_, _<_}
+use Prim.Native.Nat.{ℕ, suc, _≤_, _<_}
 use native.Mathlib.Omega.{arith}
 use Rattle.basics.proofs.Choice.{split}
 use Rattle.machine.specs.declared.Row.{Row}

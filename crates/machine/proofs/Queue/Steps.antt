@@ -1,23 +1,18 @@
 -- A step of a queue operation is one of the changes of memory, and the operation knows afterwards what its new row says. Assumes nothing.
 use mathlib.Core.Path.{_≡_, refl, sym, ap, subst, _∙_}
 use mathlib.Core.Logic.{_≢_, _⊎_, inl, inr}
-use Prim.Native.Nat.{ℕ, zero, suc, _≤_, _<_}
+use Prim.Native.Nat.{ℕ, suc, _≤_, _<_}
 use native.Mathlib.Omega.{arith}
 use Rattle.basics.specs.Maps.{upd}
-use Rattle.basics.proofs.Choice.{split}
-use Rattle.basics.proofs.Maps.{upd-here, upd-there, upd-elim}
-use Rattle.machine.specs.declared.Row.{Row}
-use Rattle.machine.specs.declared.Row.the-variants.{Q1, Q2, Q3, Q4, Q5, T1, T2, T3, T4, T5, P1, P2, P3, P4, R1, R2, R3, R4, R5, Done, ItemN, ItemT, Empty}
+use Rattle.basics.proofs.Maps.{upd-here}
 use Rattle.machine.specs.declared.Event.{Event}
 use Rattle.machine.specs.declared.Event.the-variants.{Quiet, Round, Linked, Moved, Late, Raised}
 use Rattle.machine.specs.Memory.{Memory, with-head, with-tail, with-next}
-use Rattle.machine.specs.Access.{Registers}
 use Rattle.machine.specs.Journal.{Answer, item-of}
 use Rattle.machine.proofs.Operations.{Local}
-use Rattle.machine.proofs.Turn.{Turn, at-row}
+use Rattle.machine.proofs.Turn.{Turn}
 use Rattle.machine.proofs.Turn.Turn.{q1, q2-last, q2-more, q3-links, q3-fails, q4-moves, q4-stays, q5-moves, q5-stays, t1, t2, t3-empty, t3-helps, t3-goes, t4-moves, t4-stays, t5-moves, t5-late, p1-none, p1-some, p2-clear, p2-raised, p3-pushes, p3-fails, p4-moves, p4-stays, r1-none, r1-some, r2-clear, r2-raised, r3, r4-moves, r4-stays, r5-moves, r5-stays}
 use Rattle.machine.proofs.Life.{Deeds, LifeAt}
-use Rattle.machine.proofs.Queue.Order.{IsLinked, CanLink}
 use Rattle.machine.proofs.Queue.Memory.{Now, Sound, Still.quiet, Still.round, Still.late, Change, Change.stays, Change.links, Change.tail-moves, Change.head-moves}
 use Rattle.machine.proofs.Queue.Rows.{Leads, Between, Taken, Knows}
 use Rattle.machine.proofs.Queue.Rows
