@@ -1,13 +1,13 @@
 -- The whole journal over one step: idle steps leave it, and a step's stores make it that of one more step. Assumes nothing.
 use mathlib.Core.Path.{_≡_, refl, sym, ap, subst, _∙_}
-use mathlib.Core.Logic.{_≢_, _⊎_, inl, inr}
+use mathlib.Core.Logic.{_≢_}
 use Prim.Native.Nat.{ℕ, suc, _≤_, _<_}
 use native.Mathlib.Omega.{arith}
 use mathlib.Core.Bool.{Bool, true, false}
 use mathlib.Core.List.{List}
 use Rattle.basics.specs.Choice.{pick, same}
 use Rattle.basics.specs.Maps.{at, upd}
-use Rattle.basics.proofs.Choice.{split, pick-elim, same-equal, same-unequal, compare}
+use Rattle.basics.proofs.Choice.{pick-elim, same-equal, same-unequal}
 use Rattle.basics.proofs.Maps.{upd-elim, upd-id}
 use Rattle.job.specs.Job.{Job}
 use Rattle.machine.specs.declared.Row.{Row}
@@ -17,12 +17,13 @@ use Rattle.machine.specs.Run.{ended}
 use Rattle.machine.specs.Journal.{Answer, note, answer-of, is-answer, first, last}
 use Rattle.machine.specs.Explained.{Operation}
 use Rattle.machine.proofs.Operations.{Idles, Acts}
-use Rattle.machine.proofs.Operations.Locals.{actor, local}
-use Rattle.machine.proofs.Stamps.{first-other, first-new, first-stays, last-other, last-unless, last-new, first-zero, last-zero, link-zero, start-zero}
+use Rattle.machine.proofs.Operations.Locals.{actor}
+use Rattle.machine.proofs.Stamps.{first-other, first-new, first-stays, last-other, last-unless, last-new}
 use Rattle.machine.proofs.Life.{operation-some, acts-new}
 use Rattle.machine.proofs.Life.Progress.{deeds}
-use Rattle.journal.specs.Cells.{cells, noted, earlier}
+use Rattle.journal.specs.Cells.{earlier}
 use Rattle.journal.specs.Holds.{Agrees, Holds}
+use Rattle.journal.specs.Stored.{Stored}
 use Rattle.journal.proofs.Kept.{idle-keeps, acts-keep}
 
 -- an operation is answered where its row is an end
@@ -80,13 +81,6 @@ module _ (j : Job) where
       stranger : {o : ℕ} → Operation j o → actor j (suc k) ≢ o
       stranger op e = operation-some op (sym e ∙ idle .nobody)
 
-  -- what the stores of a step of operation o leave: its first step if it had none, its last if it ended, its event, and who made the step
-  pub record Stored (k o : ℕ) (ends : Bool) (first last start link taken stands by first′ last′ start′ link′ taken′ stands′ by′ : List ℕ) : Type 0 where
-    pub first-stored : at first′ ≡ upd (at first) o (earlier (at first o) (suc k))
-    pub last-stored : at last′ ≡ pick ends (upd (at last) o (suc k)) (at last)
-    pub event-stored : cells start′ link′ taken′ stands′ ≡ noted (note j (suc k) .event) o (suc k) (cells start link taken stands)
-    pub by-stored : at by′ ≡ upd (at by) (suc k) o
-
   module _ (k o : ℕ) (acts : Acts j k o) where
     own : Operation j o
     own = record { from-one = acts .from-one; to-count = acts .to-count }
@@ -107,19 +101,16 @@ module _ (j : Job) where
         (λ here. first-kept (f o) (old o own) ∙ ap (first j (suc k)) (sym here))
         (λ there. old q op ∙ sym (first-other j k q (other there)))
 
-    answered : (ends : Bool) → ended (local j (suc k) o .row) ≡ ends → is-answer (note j (suc k) .answer) ≡ ends
-    answered ends e = ap is-answer (acts .answer) ∙ answers-at-end (local j (suc k) o .row) (local j (suc k) o .registers) ∙ e
-
-    last-more : (ends : Bool) → ended (local j (suc k) o .row) ≡ ends → (f : ℕ → ℕ) → ((q : ℕ) → Operation j q → f q ≡ last j k q) → (q : ℕ) → Operation j q → pick ends (upd f o (suc k)) f q ≡ last j (suc k) q
+    last-more : (ends : Bool) → is-answer (note j (suc k) .answer) ≡ ends → (f : ℕ → ℕ) → ((q : ℕ) → Operation j q → f q ≡ last j k q) → (q : ℕ) → Operation j q → pick ends (upd f o (suc k)) f q ≡ last j (suc k) q
     unfolding pick deeds
     last-more true e f old q op =
         upd-elim (λ x. x ≡ last j (suc k) q) f o (suc k) q
-        (λ here. sym (last-new j k o (acts .actor-is) (answered true e) (acts-new j k o acts .not-over)) ∙ ap (last j (suc k)) (sym here))
+        (λ here. sym (last-new j k o (acts .actor-is) e (acts-new j k o acts .not-over)) ∙ ap (last j (suc k)) (sym here))
         (λ there. old q op ∙ sym (last-other j k q (other there)))
-    last-more false e f old q op = old q op ∙ sym (last-unless j k q (answered false e))
+    last-more false e f old q op = old q op ∙ sym (last-unless j k q e)
 
     -- the stores of a step make the journal that of one more step
-    pub holds-acts : {ends : Bool} {first last start link taken stands by first′ last′ start′ link′ taken′ stands′ by′ : List ℕ} → ended (local j (suc k) o .row) ≡ ends → Holds j k first last start link taken stands by → Stored k o ends first last start link taken stands by first′ last′ start′ link′ taken′ stands′ by′ → Holds j (suc k) first′ last′ start′ link′ taken′ stands′ by′
+    pub holds-acts : {ends : Bool} {first last start link taken stands by first′ last′ start′ link′ taken′ stands′ by′ : List ℕ} → is-answer (note j (suc k) .answer) ≡ ends → Holds j k first last start link taken stands by → Stored (note j (suc k) .event) ends o (suc k) first last start link taken stands by first′ last′ start′ link′ taken′ stands′ by′ → Holds j (suc k) first′ last′ start′ link′ taken′ stands′ by′
     holds-acts {ends} {first} {last} {by = by} {by′ = by′} e h s =
         record {
           first-at = λ q op. ap (λ f. f q) (s .first-stored) ∙ first-more (at first) (h .first-at) q op;
