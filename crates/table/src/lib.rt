@@ -167,3 +167,10 @@ pub fn row_of(r: Row) -> Entry
     let i = position(r);
     ROWS[i]
 }
+
+// Has an operation at this row ended? The four ends come behind the table's rows.
+pub fn has_ended(r: Row) -> bool
+    ensures { λ e. ⌜ e ≡ ended r ⌝ }
+{
+    COUNT <= position(r)
+}

@@ -1,0 +1,2 @@
+-- What the run's loop keeps, step by step.
+pub mod Bounds

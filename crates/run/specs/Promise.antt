@@ -1,0 +1,34 @@
+-- What the run of a job needs of its stream and its lent memory, and what it leaves there: the definition's state and journal.
+use mathlib.Core.Path.{_≡_}
+use Prim.Native.Nat.{ℕ, _+_, _*_, _≤_, _<_}
+use mathlib.Core.Bool.{Bool}
+use mathlib.Core.List.{List}
+use lib.ListN.{length, getD}
+use Rattle.basics.specs.Choice.{pick}
+use Rattle.job.specs.declared.Kind.{Kind}
+use Rattle.job.specs.Stream.{operations, schedule-length, scheduled}
+use Rattle.job.specs.Refusals.{most-operations, most-processes, most-steps}
+use Rattle.job.specs.Job.{Job, job-of}
+use Rattle.machine.specs.declared.Operation as Machine
+use Rattle.machine.specs.declared.Place.{Place}
+use Rattle.machine.specs.Run.{before, operation-after, state-after}
+use Rattle.access.specs.View.{memory-of}
+use Rattle.step.specs.declared.Stepped.{Stepped}
+use Rattle.journal.specs.Holds.{Holds}
+
+-- the stream has the records of its operations, and an operation in hand is one of them
+pub record Goes (stream : List ℕ) (object : Kind) (count o : ℕ) : Type 0 where
+  pub its-object : object ≡ job-of stream .object
+  pub its-count : count ≡ operations stream
+  pub few : count ≤ 256
+  pub long : 4 * count + 8 ≤ length stream
+  pub in-hand : o ≤ count
+
+-- the place after a step that ended the operation or went on
+unfoldable pub followed : List ℕ → ℕ → Machine.Operation → Bool → Stepped → Place
+followed stream p o ends s =
+    pick ends (before (job-of stream) (operation-after (job-of stream) p (o .0)))
+    (record { operation = o; row = s .row; h = s .h; t = s .t; n = s .n })
+
+abbrev pub Follows : List ℕ → ℕ → Machine.Operation → Bool → Stepped → Place → Type 0
+Follows stream p o ends s r = r ≡ followed stream p o ends s
