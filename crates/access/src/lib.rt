@@ -211,8 +211,8 @@ pub fn raise_mark(c: Cells, mark: &mut [u16]) -> Accessed
     requires { ⌜ c .t < length (now mark) ⌝ }
     ensures { λ d. ⌜ ((own : ℕ) (next : List ℕ) → Does RaiseMark own c next (now (mark .entry)) d next (now (mark .exit))) ⌝ }
 {
-    let t = c.t as usize;
-    mark[t] = RAISED;
+    let raised = c.t as usize;
+    mark[raised] = RAISED;
     answer(c, Outcome::Yes, Event::Raised(c.t))
 }
 
