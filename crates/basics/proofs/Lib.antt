@@ -1,3 +1,4 @@
 -- Laws of the small tools: nothing outside of these files opens `pick`, `same`, `less` or `upd`.
 pub mod Choice
 pub mod Maps
+pub mod Text
