@@ -11,12 +11,13 @@ ghost use Rattle.basics.specs.Choice.{same};
 ghost use Rattle.machine.specs.Memory.{set-from-to, yes-if};
 ghost use Rattle.access.specs.View.{Does, Does-alone, answered};
 
-// none: no node
+// no node
 const NONE: u16 = 0;
 
-// a mark that is clear, and one that is raised
+// a mark that is clear
 const CLEAR: u16 = 0;
 
+// a mark that is raised
 const RAISED: u16 = 1;
 
 // The registers of the operation that makes a step, and the cells of shared memory that are no node's.
@@ -211,8 +212,8 @@ pub fn raise_mark(c: Cells, mark: &mut [u16]) -> Accessed
     requires { ⌜ c .t < length (now mark) ⌝ }
     ensures { λ d. ⌜ ((own : ℕ) (next : List ℕ) → Does RaiseMark own c next (now (mark .entry)) d next (now (mark .exit))) ⌝ }
 {
-    let t = c.t as usize;
-    mark[t] = RAISED;
+    let raised = c.t as usize;
+    mark[raised] = RAISED;
     answer(c, Outcome::Yes, Event::Raised(c.t))
 }
 

@@ -1,4 +1,4 @@
--- `access::read_mark` meets its contract. Assumes nothing.
+-- `access::read_mark` meets its contract: the definition computes to the answer. Assumes nothing.
 use mathlib.Core.Path.{refl}
 use Rattle.machine.specs.Access.{access, have-set}
 use Rattle.machine.specs.Journal.{event-of}
@@ -14,4 +14,6 @@ returns c = λ own next. rw (c .answer .ensures, c .before .yes-if-same .ensures
 
 pub read-mark-spec : {M : Type 1} → statement M
 read-mark-spec =
-    tie.close (tie.spec (λ c. search needs) (λ c. search needs) (λ c. search needs) (λ c κs. search needs) (λ c κs. search needs) returns)
+    tie.close
+    (tie.spec
+    (λ c. search needs) (λ c. search needs) (λ c. search needs) (λ c κs. search needs) (λ c κs. search needs) returns)

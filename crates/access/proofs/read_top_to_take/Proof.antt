@@ -1,4 +1,4 @@
--- `access::read_top_to_take` meets its contract. Assumes nothing.
+-- `access::read_top_to_take` meets its contract: under what each test told, the definition computes to the answer. Assumes nothing.
 use mathlib.Core.Path.{refl}
 use Rattle.machine.specs.Access.{access, have-read}
 use Rattle.machine.specs.Journal.{event-of}
@@ -15,7 +15,11 @@ returns c = λ own next mark. rw (c .answer .ensures) (record { reaches = rw (eq
 
 returns-2 : tie.Need-returns-2
 unfolding access have-read reached-from reached-by memory-of event-of pick
-returns-2 c = λ own next mark. rw (c .answer2 .ensures) (record { reaches = rw (unequal-same (c .before .if1 .left)); tells = refl })
+returns-2 c =
+    λ own next mark.
+    rw (c .answer2 .ensures)
+    (record { reaches = rw (unequal-same (c .before .if1 .left)); tells = refl })
 
 pub read-top-to-take-spec : {M : Type 1} → statement M
-read-top-to-take-spec = tie.close (tie.spec (λ c κs. search needs) returns (λ c κs. search needs) returns-2)
+read-top-to-take-spec =
+    tie.close (tie.spec (λ c κs. search needs) returns (λ c κs. search needs) returns-2)

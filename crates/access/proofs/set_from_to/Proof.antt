@@ -14,4 +14,5 @@ unfolding set-from-to pick
 returns-2 c = rw (unequal-same (c .if1 .left))
 
 pub set-from-to-spec : {M : Type 1} → statement M
-set-from-to-spec = tie.close (tie.spec returns returns-2)
+set-from-to-spec =
+    tie.close (tie.spec returns returns-2)

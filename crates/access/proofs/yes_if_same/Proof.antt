@@ -14,4 +14,5 @@ unfolding yes-if pick
 returns-2 c = rw (unequal-same (c .if1 .left))
 
 pub yes-if-same-spec : {M : Type 1} → statement M
-yes-if-same-spec = tie.close (tie.spec returns returns-2)
+yes-if-same-spec =
+    tie.close (tie.spec returns returns-2)

@@ -28,15 +28,29 @@ abbrev stepped : Accessed → Row → Stepped
 stepped d w =
     record { row = w; h = d .h; t = d .t; n = d .n; head = d .head; tail = d .tail; top = d .top; event = d .event }
 
-access-and-successor-are-the-step : {p : Place} {head tail top : ℕ} {next mark next' mark' : List ℕ} {e : Entry} {d : Accessed} {w : Row} → e ≡ row-of (p .row) → Does (e .access) (p .operation .0) (cells-of p head tail top) next mark d next' mark' → w ≡ successor e (d .outcome) → IsStep p head tail top next mark (stepped d w) next' mark'
+-- an entry that was looked up, its access done, and the row after it
+access-and-successor-are-the-step :
+    {p : Place} {head tail top : ℕ} {next mark next' mark' : List ℕ} {e : Entry} {d : Accessed} {w : Row} →
+    e ≡ row-of (p .row) →
+    Does (e .access) (p .operation .0) (cells-of p head tail top) next mark d next' mark' →
+    w ≡ successor e (d .outcome) →
+    IsStep p head tail top next mark (stepped d w) next' mark'
 unfolding reached-from reached-by reached reach registers row-after
 access-and-successor-are-the-step {p} {head} {tail} {top} {next} {mark} {next'} {mark'} {e} {d} looked did after =
-    let there : reached-by d next' mark' ≡ reached (memory-of head tail top next mark) p = did .reaches ∙ ap (λ (x : Entry). reached-from (x .access) (p .operation .0) (cells-of p head tail top) next mark) looked in
+    let there : reached-by d next' mark' ≡ reached (memory-of head tail top next mark) p =
+    did .reaches
+    ∙ ap (λ (x : Entry). reached-from (x .access) (p .operation .0) (cells-of p head tail top) next mark) looked in
     record {
       memory = ap (λ (x : Reached). x .memory) there;
       registers = ap (λ (x : Reached). x .registers) there;
-      row = after ∙ ap (λ (x : Entry). successor x (d .outcome)) looked ∙ ap (λ (x : Reached). successor (row-of (p .row)) (x .outcome)) there;
-      event = did .tells ∙ ap (λ (x : Entry). event-of (x .access) (d .outcome) (record { h = d .h; t = d .t; n = d .n })) looked ∙ ap (λ (x : Reached). event-of (row-of (p .row) .access) (x .outcome) (x .registers)) there;
+      row =
+          after
+          ∙ ap (λ (x : Entry). successor x (d .outcome)) looked
+          ∙ ap (λ (x : Reached). successor (row-of (p .row)) (x .outcome)) there;
+      event =
+          did .tells
+          ∙ ap (λ (x : Entry). event-of (x .access) (d .outcome) (record { h = d .h; t = d .t; n = d .n })) looked
+          ∙ ap (λ (x : Reached). event-of (row-of (p .row) .access) (x .outcome) (x .registers)) there;
     }
 
 returns : tie.Need-returns
@@ -48,4 +62,7 @@ returns c =
 
 pub step-spec : {M : Type 1} → statement M
 step-spec =
-    tie.close (tie.spec (λ c κs. search needs) (λ c κs. search needs) (λ c κs. search needs) (λ c. search needs) (λ c. search needs) returns)
+    tie.close
+    (tie.spec
+    (λ c κs. search needs) (λ c κs. search needs) (λ c κs. search needs) (λ c. search needs) (λ c. search needs)
+    returns)

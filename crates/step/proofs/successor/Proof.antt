@@ -17,4 +17,5 @@ unfolding successor
 returns-3 c = rw (c .enum-told3 .given .1)
 
 pub successor-spec : {M : Type 1} → statement M
-successor-spec = tie.close (tie.spec (λ c. search needs) (λ c. search needs) (λ c. search needs) returns returns-2 returns-3)
+successor-spec =
+    tie.close (tie.spec (λ c. search needs) (λ c. search needs) (λ c. search needs) returns returns-2 returns-3)
