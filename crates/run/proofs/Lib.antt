@@ -1,2 +1,4 @@
 -- What the run's loop keeps, step by step.
 pub mod Bounds
+pub mod Places
+pub mod Turned

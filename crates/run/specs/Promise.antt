@@ -11,6 +11,7 @@ use Rattle.job.specs.Refusals.{most-operations, most-processes, most-steps}
 use Rattle.job.specs.Job.{Job, job-of}
 use Rattle.machine.specs.declared.Operation as Machine
 use Rattle.machine.specs.declared.Place.{Place}
+use Rattle.machine.specs.declared.Row.the-variants.{Q1}
 use Rattle.machine.specs.Run.{before, operation-after, state-after}
 use Rattle.access.specs.View.{memory-of}
 use Rattle.step.specs.declared.Stepped.{Stepped}
@@ -32,3 +33,28 @@ followed stream p o ends s =
 
 abbrev pub Follows : List ℕ → ℕ → Machine.Operation → Bool → Stepped → Place → Type 0
 Follows stream p o ends s r = r ≡ followed stream p o ends s
+
+-- a place that stands for none: an array has it past its end
+unfoldable pub nowhere : Place
+nowhere = record { operation = record { 0 = 0 }; row = Q1; h = 0; t = 0; n = 0 }
+
+-- the eight places are those of the definition after k steps
+pub record InPlace (j : Job) (k : ℕ) (places : List Place) : Type 0 where
+  pub eight : length places ≡ most-processes
+  pub each : (p : ℕ) → p < most-processes → getD places p nowhere ≡ state-after j k .places p
+
+-- what a run needs of its stream: the job's object, count and steps, all within their limits, and every scheduled process one of eight
+pub record Runnable (stream : List ℕ) (object : Kind) (count steps : ℕ) : Type 0 where
+  pub its-object : object ≡ job-of stream .object
+  pub its-count : count ≡ operations stream
+  pub its-steps : steps ≡ schedule-length stream
+  pub few : count ≤ most-operations
+  pub short : steps ≤ most-steps
+  pub records : 4 * count + 8 ≤ length stream
+  pub entries : 4 * count + 6 + steps ≤ length stream
+  pub in-range : (k : ℕ) → 1 ≤ k → k ≤ steps → scheduled stream k < most-processes
+
+-- memory and journal are those of the definition after k steps
+pub record Ran (j : Job) (k head tail top : ℕ) (next mark first last start link taken stands by : List ℕ) : Type 0 where
+  pub memory : memory-of head tail top next mark ≡ state-after j k .memory
+  pub journal : Holds j k first last start link taken stands by

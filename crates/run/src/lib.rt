@@ -13,7 +13,7 @@ ghost use lib.ListN.{length};
 ghost use Rattle.job.specs.Stream.{operations, «schedule-length»};
 ghost use Rattle.job.specs.Job.{«job-of»};
 ghost use Rattle.machine.specs.Run.{ended, before, «operation-after»};
-ghost use Rattle.run.specs.Promise.{Goes, Follows};
+ghost use Rattle.run.specs.Promise.{Goes, Follows, InPlace};
 
 // The run state: "The eight places, one a process, go from step to step together".
 pub struct Run {
@@ -71,4 +71,29 @@ fn follow(
         t: s.t,
         n: s.n,
     }
+}
+
+// The first place of process p.
+fn first_place(stream: &[u8], object: Kind, count: u16, p: u8) -> Place
+    requires { ⌜ Goes (now stream) object count 0 ⌝ }
+    ensures { λ r. ⌜ r ≡ before (job-of (now (stream .entry))) (operation-after (job-of (now (stream .entry))) p 0) ⌝ }
+{
+    let o = next_operation(stream, count, Process(p), 0);
+    begin(stream, object, o)
+}
+
+// Every process before its first operation.
+fn line_up(stream: &[u8], object: Kind, count: u16) -> Run
+    requires { ⌜ Goes (now stream) object count 0 ⌝ }
+    ensures { λ r. ⌜ InPlace (job-of (now (stream .entry))) 0 (r .places) ⌝ }
+{
+    let first = first_place(stream, object, count, 0);
+    let mut run = Run { places: [first; 8] };
+    let mut p: u8 = 1;
+    while p < 8 {
+        let place = first_place(stream, object, count, p);
+        run.places[p as usize] = place;
+        p += 1;
+    }
+    run
 }
