@@ -2,3 +2,4 @@
 pub mod Bounds
 pub mod Places
 pub mod Turned
+pub mod Loop

@@ -33,13 +33,13 @@ use Rattle.journal.proofs.Whole.{answers-at-end, holds-idle, holds-acts}
 use Rattle.run.specs.Promise.{nowhere, InPlace, Ran, followed}
 
 -- the step of a place, from memory and with the answer of the code, as the definition has it
-record Made (place : Place) (m m′ : Memory) (s : Stepped) : Type 0 where
-  memory : m′ ≡ reached m place .memory
-  registers : record { h = s .h; t = s .t; n = s .n } ≡ reached m place .registers
-  row : s .row ≡ row-after place (reached m place)
-  event : s .event ≡ event-of (row-of (place .row) .access) (reached m place .outcome) (reached m place .registers)
+pub record Made (place : Place) (m m′ : Memory) (s : Stepped) : Type 0 where
+  pub memory : m′ ≡ reached m place .memory
+  pub registers : record { h = s .h; t = s .t; n = s .n } ≡ reached m place .registers
+  pub row : s .row ≡ row-after place (reached m place)
+  pub event : s .event ≡ event-of (row-of (place .row) .access) (reached m place .outcome) (reached m place .registers)
 
-made-from : {place : Place} {head tail top : ℕ} {next mark next′ mark′ : List ℕ} {s : Stepped} {m : Memory} → memory-of head tail top next mark ≡ m → IsStep place head tail top next mark s next′ mark′ → Made place m (memory-of (s .head) (s .tail) (s .top) next′ mark′) s
+pub made-from : {place : Place} {head tail top : ℕ} {next mark next′ mark′ : List ℕ} {s : Stepped} {m : Memory} → memory-of head tail top next mark ≡ m → IsStep place head tail top next mark s next′ mark′ → Made place m (memory-of (s .head) (s .tail) (s .top) next′ mark′) s
 made-from {place} {next′ = next′} {mark′ = mark′} {s = s} e is =
     subst (λ x. Made place x (memory-of (s .head) (s .tail) (s .top) next′ mark′) s) e
     (record { memory = is .memory; registers = is .registers; row = is .row; event = is .event })
@@ -110,7 +110,7 @@ module _ (j : Job) (k : ℕ) where
   places-rest {places} e l = record { eight = l .eight; each = λ p h. l .each p h ∙ ap (λ (s : State). s .places p) (sym (state-rests e)) }
 
   -- the place that follows is the definition's
-  followed-place : {m′ : Memory} {s : Stepped} (ends : Bool) (q : Place) → Made place (state-after j k .memory) m′ s → ends ≡ ended (s .row) → q ≡ pick ends (before j (operation-after j process (place .operation .0))) (record { operation = place .operation; row = s .row; h = s .h; t = s .t; n = s .n }) → q ≡ place-after j process place a
+  pub followed-place : {m′ : Memory} {s : Stepped} (ends : Bool) (q : Place) → Made place (state-after j k .memory) m′ s → ends ≡ ended (s .row) → q ≡ pick ends (before j (operation-after j process (place .operation .0))) (record { operation = place .operation; row = s .row; h = s .h; t = s .t; n = s .n }) → q ≡ place-after j process place a
   unfolding place-after
   followed-place ends q made e f =
       f
@@ -143,7 +143,7 @@ module _ (j : Job) (k : ℕ) where
   -- an acting process: memory and journal of one more step
   pub ran-acts : {head tail top : ℕ} {next mark first last start link taken stands by next′ mark′ first′ last′ start′ link′ taken′ stands′ by′ : List ℕ} {s : Stepped} (ends : Bool) → resting j place ≡ false → Ran j k head tail top next mark first last start link taken stands by → IsStep place head tail top next mark s next′ mark′ → ends ≡ ended (s .row) → Stored (s .event) ends (place .operation .0) (suc k) first last start link taken stands by first′ last′ start′ link′ taken′ stands′ by′ → Ran j (suc k) (s .head) (s .tail) (s .top) next′ mark′ first′ last′ start′ link′ taken′ stands′ by′
   unfolding acted
-  ran-acts {s = s} ends e r is ending stored =
+  ran-acts {first = first} {last = last} {start = start} {link = link} {taken = taken} {stands = stands} {by = by} {first′ = first′} {last′ = last′} {start′ = start′} {link′ = link′} {taken′ = taken′} {stands′ = stands′} {by′ = by′} {s = s} ends e r is ending stored =
       let made = made-from (r .memory) is in
       let event : s .event ≡ note j (suc k) .event = made .event ∙ ap (λ (n : Note). n .event) (sym (note-acts e)) in
       let answered : is-answer (note j (suc k) .answer) ≡ ends =
@@ -156,5 +156,5 @@ module _ (j : Job) (k : ℕ) where
         memory = made .memory ∙ ap (λ (x : State). x .memory) (sym (state-acts e));
         journal =
             holds-acts j k (place .operation .0) (acts-of e) answered (r .journal)
-            (subst (λ v. Stored v ends (place .operation .0) (suc k) _ _ _ _ _ _ _ _ _ _ _ _ _ _) event stored);
+            (subst (λ v. Stored v ends (place .operation .0) (suc k) first last start link taken stands by first′ last′ start′ link′ taken′ stands′ by′) event stored);
       }

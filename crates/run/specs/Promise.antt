@@ -5,6 +5,7 @@ use mathlib.Core.Bool.{Bool}
 use mathlib.Core.List.{List}
 use lib.ListN.{length, getD}
 use Rattle.basics.specs.Choice.{pick}
+use Rattle.basics.specs.Maps.{at}
 use Rattle.job.specs.declared.Kind.{Kind}
 use Rattle.job.specs.Stream.{operations, schedule-length, scheduled}
 use Rattle.job.specs.Refusals.{most-operations, most-processes, most-steps}
@@ -35,7 +36,7 @@ abbrev pub Follows : List ℕ → ℕ → Machine.Operation → Bool → Stepped
 Follows stream p o ends s r = r ≡ followed stream p o ends s
 
 -- a place that stands for none: an array has it past its end
-unfoldable pub nowhere : Place
+abbrev pub nowhere : Place
 nowhere = record { operation = record { 0 = 0 }; row = Q1; h = 0; t = 0; n = 0 }
 
 -- the eight places are those of the definition after k steps
@@ -58,3 +59,30 @@ pub record Runnable (stream : List ℕ) (object : Kind) (count steps : ℕ) : Ty
 pub record Ran (j : Job) (k head tail top : ℕ) (next mark first last start link taken stands by : List ℕ) : Type 0 where
   pub memory : memory-of head tail top next mark ≡ state-after j k .memory
   pub journal : Holds j k first last start link taken stands by
+
+-- a cell for every node or operation, and for every step
+pub record Room (next mark first last start link taken stands by : List ℕ) : Type 0 where
+  pub in-next : most-operations < length next
+  pub in-mark : most-operations < length mark
+  pub in-first : most-operations < length first
+  pub in-last : most-operations < length last
+  pub in-start : most-operations < length start
+  pub in-link : most-operations < length link
+  pub in-taken : most-operations < length taken
+  pub in-stands : most-operations < length stands
+  pub in-by : most-steps < length by
+
+-- every cell is 0: "A fresh queue has Head and Tail at node 0 and every next none; a fresh stack has Top none and every mark clear."
+abbrev pub Blank : List ℕ → Type 0
+Blank l = (i : ℕ) → at l i ≡ 0
+
+pub record AllBlank (next mark first last start link taken stands by : List ℕ) : Type 0 where
+  pub no-next : Blank next
+  pub no-mark : Blank mark
+  pub no-first : Blank first
+  pub no-last : Blank last
+  pub no-start : Blank start
+  pub no-link : Blank link
+  pub no-taken : Blank taken
+  pub no-stands : Blank stands
+  pub no-by : Blank by

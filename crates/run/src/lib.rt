@@ -13,7 +13,7 @@ ghost use lib.ListN.{length};
 ghost use Rattle.job.specs.Stream.{operations, «schedule-length»};
 ghost use Rattle.job.specs.Job.{«job-of»};
 ghost use Rattle.machine.specs.Run.{ended, before, «operation-after»};
-ghost use Rattle.run.specs.Promise.{Goes, Follows, InPlace};
+ghost use Rattle.run.specs.Promise.{Goes, Follows, InPlace, Runnable, Room, AllBlank, Ran};
 
 // The run state: "The eight places, one a process, go from step to step together".
 pub struct Run {
@@ -96,4 +96,68 @@ fn line_up(stream: &[u8], object: Kind, count: u16) -> Run
         p += 1;
     }
     run
+}
+
+// Runs the whole schedule. The lent memory is blank; it is left with the nodes' nexts and marks and with the journal.
+pub fn run_all(
+    stream: &[u8],
+    object: Kind,
+    count: u16,
+    steps: u16,
+    next: &mut [u16],
+    mark: &mut [u16],
+    first: &mut [u16],
+    last: &mut [u16],
+    start: &mut [u16],
+    link: &mut [u16],
+    taken: &mut [u16],
+    stands: &mut [u16],
+    by: &mut [u16],
+) -> Object
+    requires { ⌜ Runnable (now stream) object count steps ⌝ }
+    requires { ⌜ Room (now next) (now mark) (now first) (now last) (now start) (now link) (now taken) (now stands) (now by) ⌝ }
+    requires { ⌜ AllBlank (now next) (now mark) (now first) (now last) (now start) (now link) (now taken) (now stands) (now by) ⌝ }
+    ensures { λ r. ⌜ Ran (job-of (now (stream .entry))) steps (r .head) (r .tail) (r .top) (now (next .exit)) (now (mark .exit)) (now (first .exit)) (now (last .exit)) (now (start .exit)) (now (link .exit)) (now (taken .exit)) (now (stands .exit)) (now (by .exit)) ⌝ }
+{
+    let mut run = line_up(stream, object, count);
+    let fresh = Object::fresh();
+    let mut head = fresh.head;
+    let mut tail = fresh.tail;
+    let mut top = fresh.top;
+    let entries = 4 * (count as usize) + 6;
+    let mut k: u16 = 0;
+    while k < steps {
+        let p = stream[entries + k as usize];
+        let i = p as usize;
+        let place = run.places[i];
+        let o = place.operation;
+        if count < o.0 {
+            k += 1;
+            continue;
+        }
+        let s = step::step(place, head, tail, top, next, mark);
+        let row = s.row;
+        let event = s.event;
+        let ends = table::has_ended(row);
+        journal::enter(
+            event,
+            ends,
+            o,
+            Step(k + 1),
+            first,
+            last,
+            start,
+            link,
+            taken,
+            stands,
+            by,
+        );
+        let after = follow(stream, object, count, Process(p), o, ends, s);
+        run.places[i] = after;
+        head = s.head;
+        tail = s.tail;
+        top = s.top;
+        k += 1;
+    }
+    Object { head, tail, top }
 }
