@@ -8,7 +8,7 @@ use Rattle.basics.specs.Maps.{at}
 use Rattle.basics.specs.Words.{word, word-bytes}
 
 -- the two bytes stored at the front of a list
-pub word-stored : (l : List ℕ) (n : ℕ) → n < 65536 → 2 ≤ length l → set (set l 0 (n / 256)) 1 (n % 256) ≡ word-bytes n ++ drop 2 l
+pub word-stored : (l : List ℕ) (n : ℕ) → n < 65536 → 2 ≤ length l → set (set l 0 (n / 256)) 1 (n % 256) ≡ word-bytes n ++ drop (length (word-bytes n)) l
 unfolding word-bytes
 word-stored [] n fits room = absurd (omega arith)
 word-stored (x ∷ []) n fits room = absurd (omega arith)

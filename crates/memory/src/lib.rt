@@ -1,9 +1,9 @@
 // Lent bytes: a number read from two of them or written to two, a copy, and zeros.
 ghost use mathlib.Core.Path.{_≡_};
-ghost use mathlib.Core.List.{_++_};
 ghost use Prim.Native.Nat.{_+_, _<_, _≤_};
-ghost use lib.ListN.{length, take, drop, replicate};
+ghost use lib.ListN.{length, replicate};
 ghost use Rattle.basics.specs.Words.{word, word-bytes};
+ghost use Rattle.memory.specs.Over.{over};
 
 // The number in the two bytes at an index.
 pub fn word_at(s: &[u8], i: usize) -> u16
@@ -16,7 +16,7 @@ pub fn word_at(s: &[u8], i: usize) -> u16
 // A number's two bytes, at the front.
 pub fn put_word(to: &mut [u8], n: u16)
     requires { ⌜ 2 ≤ length (now to) ⌝ }
-    ensures { λ _. ⌜ now (to .exit) ≡ word-bytes n ++ drop 2 (now (to .entry)) ⌝ }
+    ensures { λ _. ⌜ now (to .exit) ≡ over (word-bytes n) (now (to .entry)) ⌝ }
 {
     to[0] = (n / 256) as u8;
     to[1] = (n % 256) as u8;
@@ -25,7 +25,7 @@ pub fn put_word(to: &mut [u8], n: u16)
 // All bytes of one memory, at the front of another.
 pub fn copy(to: &mut [u8], from: &[u8])
     requires { ⌜ length (now from) ≤ length (now to) ⌝ }
-    ensures { λ _. ⌜ now (to .exit) ≡ now (from .entry) ++ drop (length (now (from .entry))) (now (to .entry)) ⌝ }
+    ensures { λ _. ⌜ now (to .exit) ≡ over (now (from .entry)) (now (to .entry)) ⌝ }
 {
     let mut i = 0;
     while i < from.len() {

@@ -1,0 +1,6 @@
+-- Laws of blocks and their sums.
+pub mod AddBytes
+pub mod Refusal
+pub mod Sizes
+pub mod Given
+pub mod Made
