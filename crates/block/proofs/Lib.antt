@@ -4,3 +4,4 @@ pub mod Refusal
 pub mod Sizes
 pub mod Given
 pub mod Made
+pub mod Accepted
