@@ -1,0 +1,3 @@
+-- Laws of conditions and streams.
+pub mod Conditions
+pub mod Tests
