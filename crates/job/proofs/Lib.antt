@@ -1,3 +1,4 @@
 -- Laws of conditions and streams.
 pub mod Conditions
 pub mod Tests
+pub mod Blocks

@@ -1,0 +1,2 @@
+-- Laws of joining blocks and of what a read leaves.
+pub mod Joining
