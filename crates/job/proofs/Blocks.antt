@@ -5,10 +5,11 @@ use Prim.Native.Nat.{ℕ, zero, suc, _+_, _-_, _*_, _≤_, _<_}
 use native.Mathlib.Numerals.{add-one}
 use native.Mathlib.Omega.{arith}
 use mathlib.Core.List.{List, [], _++_}
-use lib.ListN.{length, take, drop}
+use lib.ListN.{length, take, drop, length-append}
 use Rattle.basics.proofs.Choice.{pick-true, pick-false, equal-same, unequal-same}
 use Rattle.memory.proofs.Over.{length-part}
-use Rattle.block.specs.Block.{block-size, payload-of, block-refusal}
+use Rattle.block.specs.Block.{block-size, payload-size, payload-of, block-refusal}
+use Rattle.block.proofs.Accepted.{length-payload}
 use Rattle.job.specs.File.{block-at, payloads, blocks-refusal}
 
 -- the part of a file that the code lends
@@ -56,3 +57,12 @@ module _ (file : List ℕ) {i n : ℕ} where
     where
       none : n - i ≡ zero
       none = omega arith
+
+pub length-payloads : (file : List ℕ) (i n : ℕ) → block-size * (i + n) ≤ length file → length (payloads file i n) ≡ payload-size * n
+unfolding payloads block-size payload-size
+length-payloads file i zero h = refl
+length-payloads file i (suc n) h =
+    let b : List ℕ = block-at file i in
+    let own : length (payload-of b) ≡ payload-size = length-payload b (length-block-at file i (omega arith)) in
+    let later : length (payloads file (suc i) n) ≡ payload-size * n = length-payloads file (suc i) n (omega arith) in
+    length-append (payload-of b) (payloads file (suc i) n) ∙ (let e : length (payload-of b) + length (payloads file (suc i) n) ≡ payload-size * suc n = omega arith in e)

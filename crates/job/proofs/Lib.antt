@@ -2,3 +2,5 @@
 pub mod Conditions
 pub mod Tests
 pub mod Blocks
+pub mod Table
+pub mod Accepted

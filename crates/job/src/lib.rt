@@ -32,6 +32,13 @@ impl Reply {
     pub const MOST_FILE: usize = Reply::MOST_BLOCKS * Answer::BLOCK;
 
     pub const MOST_STREAM: usize = Reply::MOST_BLOCKS * Answer::PAYLOAD;
+
+    // "A refusal gives its number and length 0".
+    pub fn refused(number: u8) -> Reply
+        ensures { λ r. ⌜ (r .number ≡ number) × (r .length ≡ 0) ⌝ }
+    {
+        Reply { number, length: 0 }
+    }
 }
 
 // The number of operations.

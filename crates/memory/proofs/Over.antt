@@ -57,3 +57,9 @@ length-part m a k h = let e : length (drop a m) ≡ length m - a = length-drop a
 -- the part to the end is what is behind
 pub part-behind : (m : List ℕ) (a : ℕ) → take (length m - a) (drop a m) ≡ drop a m
 part-behind m a = let e : length (drop a m) ≡ length m - a = length-drop a m in take-all (length m - a) (drop a m) (omega arith)
+
+-- two memories that are alike from `a` on are alike from `b` on
+pub drop-more : (x y : List ℕ) (a b : ℕ) → a ≤ b → drop a x ≡ drop a y → drop b x ≡ drop b y
+drop-more x y a b h e =
+    let k : b ≡ a + (b - a) = omega arith in
+    ap (λ (n : ℕ). drop n x) k ∙ sym (drop-drop (b - a) a x) ∙ ap (drop (b - a)) e ∙ drop-drop (b - a) a y ∙ ap (λ (n : ℕ). drop n y) (sym k)

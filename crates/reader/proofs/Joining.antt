@@ -6,9 +6,10 @@ use native.Mathlib.Nat.{sub-zero}
 use native.Mathlib.Omega.{arith}
 use mathlib.Core.List.{List, [], _++_, append-nil}
 use lib.ListN.{length, take, drop, take-append-drop}
-use lib.Seq.{drop-drop, length-take-le}
+use lib.Seq.{length-take-le}
 use Rattle.basics.proofs.Laid.{Laid, laid-none, laid-more, laid-all}
 use Rattle.memory.specs.Over.{over}
+use Rattle.memory.proofs.Over.{drop-more}
 use Rattle.block.specs.Block.{block-size, payload-size, payload-of, block-refusal}
 use Rattle.block.specs.Answer.{number-of, bytes-of}
 use Rattle.block.specs.declared.Answer.{Answer}
@@ -47,7 +48,7 @@ module _ {file start m m′ : List ℕ} {n i : ℕ} (j : Joining file start m n 
       let size : length (payload-of b) ≡ payload-size = length-payload b (length-block-at file i (omega arith)) in
       let good : block-refusal i b ≡ 0 = sym (t .0) ∙ ap number-of e in
       let laid : Laid start m′ (payload-size * i + length (payload-of b)) (payloads file (i + 1) (n - (i + 1))) (payloads file 0 n) =
-        laid-more m′ (payload-of b) (subst (λ (x : List ℕ). Laid start m (payload-size * i) x (payloads file 0 n)) (payloads-next file more) (j .laid)) (omega arith) (t .1 ∙ ap (λ (a : Answer). take (payload-size * i) m ++ over (bytes-of a b) (drop (payload-size * i) m)) e)
+      laid-more m′ (payload-of b) (subst (λ (x : List ℕ). Laid start m (payload-size * i) x (payloads file 0 n)) (payloads-next file more) (j .laid)) (omega arith) (t .1 ∙ ap (λ (a : Answer). take (payload-size * i) m ++ over (bytes-of a b) (drop (payload-size * i) m)) e)
       in
       record {
         low = omega arith;
@@ -69,11 +70,7 @@ module _ {file start m m′ : List ℕ} {n i : ℕ} (j : Joining file start m n 
 -- what is behind all payloads is as it was
 pub joining-behind : {file start m : List ℕ} {n i : ℕ} → Joining file start m n i → drop (payload-size * n) m ≡ drop (payload-size * n) start
 unfolding payload-size
-joining-behind {file} {start} {m} {n} {i} j =
-    let k : payload-size * n ≡ payload-size * i + (payload-size * n - payload-size * i) = omega (arith, j .low) in
-    ap (λ (x : ℕ). drop x m) k ∙ sym (drop-drop (payload-size * n - payload-size * i) (payload-size * i) m)
-    ∙ ap (drop (payload-size * n - payload-size * i)) (j .laid .back)
-    ∙ drop-drop (payload-size * n - payload-size * i) (payload-size * i) start ∙ ap (λ (x : ℕ). drop x start) (sym k)
+joining-behind {start = start} {m = m} {n = n} {i = i} j = drop-more m start (payload-size * i) (payload-size * n) (omega (arith, j .low)) (j .laid .back)
 
 -- all blocks are taken
 module _ {file start m : List ℕ} {n i : ℕ} (j : Joining file start m n i) (done : n ≤ i) where
@@ -85,6 +82,6 @@ module _ {file start m : List ℕ} {n i : ℕ} (j : Joining file start m n i) (d
   all-joined room =
       let last : Laid start m (payload-size * i) [] (payloads file 0 n) = subst (λ (x : List ℕ). Laid start m (payload-size * i) x (payloads file 0 n)) (payloads-end file done) (j .laid) in
       let size : length (payloads file 0 n) ≡ payload-size * i =
-        ap length (sym (last .front) ∙ append-nil (take (payload-size * i) m)) ∙ length-take-le (payload-size * i) m (omega (arith, j .low))
+      ap length (sym (last .front) ∙ append-nil (take (payload-size * i) m)) ∙ length-take-le (payload-size * i) m (omega (arith, j .low))
       in
       laid-all last ∙ ap (λ (k : ℕ). payloads file 0 n ++ drop k start) (sym size)

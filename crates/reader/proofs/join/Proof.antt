@@ -38,11 +38,12 @@ returns c =
     let j = c .before .before .before .before .before .before .before .loop .inv in
     let t = c .before .before .before .before .take-block in
     let refused = refused-number (t .result) (c .before .match .keys2) in
-    let more = c .before .before .before .before .before .before .loop-test .taken in
-    (
+    let more = c .before .before .before .before .before .before .loop-test .taken in (
       c .number .ensures ∙ refused-decides j more (t .result) (t .ensures) refused,
-      ((λ z. absurd (refused (sym (c .number .ensures) ∙ z))),
-      ap (drop (payload-size * c .before .before .before .before .before .before .before .before .before .before .args .count)) (refused-keeps j more (t .result) (t .ensures) refused) ∙ joining-behind j)
+      (
+        (λ z. absurd (refused (sym (c .number .ensures) ∙ z))),
+        ap (drop (payload-size * c .before .before .before .before .before .before .before .before .before .before .args .count)) (refused-keeps j more (t .result) (t .ensures) refused) ∙ joining-behind j,
+      ),
     )
 
 add-i : tie.Need-add-i Inv-loop μ-loop

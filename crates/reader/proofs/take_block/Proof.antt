@@ -66,11 +66,10 @@ returns c =
     let work : List ℕ = p .work .now in
     let b : List ℕ = block-at (p .file .now) (p .i) in
     let given : length (bytes-of r b) ≤ payload-size = length-given r b (length-block-at (p .file .now) (p .i) (omega arith)) in
-    let is-block = block-part (p .file .now) (p .i) in
-    (
+    let is-block = block-part (p .file .now) (p .i) in (
       c .before .before .give .ensures .0 ∙ ap (block-refusal (p .i)) is-block,
       part-over work (bytes-of r b) (c .before .before .give .last .1 .1 .0) (payload-size * p .i) (length work - payload-size * p .i) (omega arith)
-        (c .before .before .give .ensures .1 ∙ ap (λ (x : List ℕ). over (bytes-of r x) (take (length work - payload-size * p .i) (drop (payload-size * p .i) work))) is-block)
+          (c .before .before .give .ensures .1 ∙ ap (λ (x : List ℕ). over (bytes-of r x) (take (length work - payload-size * p .i) (drop (payload-size * p .i) work))) is-block),
     )
 
 pub take-block-spec : {M : Type 1} → statement M
