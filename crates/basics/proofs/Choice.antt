@@ -1,5 +1,5 @@
 -- Laws of `pick`, `same` and `less`: what a test says of numbers, and how a proof goes by cases of it. Assumes nothing.
-use mathlib.Core.Path.{_≡_, refl, sym, subst, _∙_}
+use mathlib.Core.Path.{_≡_, refl, sym, ap, subst, _∙_}
 use mathlib.Core.Logic.{_≢_, _⊎_, inl, inr}
 use Prim.Native.Nat.{ℕ, _≤_, _<_}
 use mathlib.Core.Bool.{Bool, true, false, not, true≢false}
@@ -12,6 +12,11 @@ pub both : (b : Bool) → (b ≡ true) ⊎ (b ≡ false)
 both true = inl refl
 both false = inr refl
 
+-- what holds of each answer of a test holds of the test
+pub test-elim {κ} : (P : Bool → Type κ) (t : Bool) → (t ≡ true → P true) → (t ≡ false → P false) → P t
+test-elim P true f g = f refl
+test-elim P false f g = g refl
+
 pub pick-true {ℓ} : {A : Type ℓ} (a b : A) → pick true a b ≡ a
 unfolding pick
 pick-true a b = refl
@@ -19,6 +24,12 @@ pick-true a b = refl
 pub pick-false {ℓ} : {A : Type ℓ} (a b : A) → pick false a b ≡ b
 unfolding pick
 pick-false a b = refl
+
+pub pick-then {ℓ} : {A : Type ℓ} {t : Bool} (a b : A) → t ≡ true → pick t a b ≡ a
+pick-then a b e = ap (λ (x : Bool). pick x a b) e ∙ pick-true a b
+
+pub pick-else {ℓ} : {A : Type ℓ} {t : Bool} (a b : A) → t ≡ false → pick t a b ≡ b
+pick-else a b e = ap (λ (x : Bool). pick x a b) e ∙ pick-false a b
 
 -- what holds of each value under its test's answer holds of the choice
 pub pick-elim {ℓ κ} : {A : Type ℓ} (P : A → Type κ) (t : Bool) (a b : A) → (t ≡ true → P a) → (t ≡ false → P b) → P (pick t a b)
@@ -86,3 +97,11 @@ lt-less {m} {n} h = of-T (ltb m n) (lt→ltb m n h)
 pub le-less : {m n : ℕ} → n ≤ m → less m n ≡ false
 unfolding less
 le-less {m} {n} h = of-not (ltb m n) (λ t. let k : m < n = ltb→lt m n t in omega arith)
+
+-- one number is at most another, or greater
+pub compare : (m n : ℕ) → (m ≤ n) ⊎ (n < m)
+compare m n = go (both (less n m))
+  where
+    go : (less n m ≡ true) ⊎ (less n m ≡ false) → (m ≤ n) ⊎ (n < m)
+    go (inl t) = inr (less-lt t)
+    go (inr e) = inl (less-le e)

@@ -1,0 +1,54 @@
+// The operation in a process's hand: where it begins, and which comes after it. Operations count from 1; N + 1 is none.
+ghost use mathlib.Core.Path.{_≡_};
+ghost use Prim.Native.Nat.{_+_, _*_, _<_, _≤_};
+ghost use lib.ListN.{length};
+ghost use Rattle.job.specs.Stream.{operations};
+ghost use Rattle.job.specs.Job.{«job-of»};
+ghost use Rattle.machine.specs.Table.{«first-row»};
+ghost use Rattle.machine.specs.Run.{before, «operation-after»};
+use job::Kind;
+use machine::Operation;
+use machine::Place;
+use machine::Process;
+use machine::Row;
+
+// The row where an operation begins.
+pub fn first_row(object: Kind, put: bool) -> Row
+    ensures { λ r. ⌜ r ≡ first-row object put ⌝ }
+{
+    match object {
+        Kind::Queue => { if put { Row::Q1 } else { Row::T1 } }
+        Kind::Stack => { if put { Row::P1 } else { Row::R1 } }
+    }
+}
+
+// A place before the first step of an operation of the stream's job.
+pub fn begin(stream: &[u8], object: Kind, o: u16) -> Place
+    requires { ⌜ (4 * o + 3 < length (now stream)) × (object ≡ job-of (now stream) .object) ⌝ }
+    ensures { λ r. ⌜ r ≡ before (job-of (now (stream .entry))) o ⌝ }
+{
+    let put = stream[4 * (o as usize) + 3] == 1;
+    let row = first_row(object, put);
+    Place {
+        operation: Operation(o),
+        row,
+        h: 0,
+        t: 0,
+        n: 0,
+    }
+}
+
+// The operation of a process that comes after operation o.
+pub fn next_operation(stream: &[u8], count: u16, p: Process, o: u16) -> u16
+    requires { ⌜ (count ≡ operations (now stream)) × (4 * count + 6 ≤ length (now stream)) × (count < 65535) × (o ≤ count) ⌝ }
+    ensures { λ r. ⌜ r ≡ operation-after (job-of (now (stream .entry))) (p .0) o ⌝ }
+{
+    let mut i = o + 1;
+    while i <= count {
+        if stream[4 * (i as usize) + 2] == p.0 {
+            return i;
+        }
+        i += 1;
+    }
+    i
+}

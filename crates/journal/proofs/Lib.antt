@@ -1,0 +1,2 @@
+-- What the journal's stores do to cells read as functions.
+pub mod Stores

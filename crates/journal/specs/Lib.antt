@@ -1,0 +1,2 @@
+-- What the journal's cells hold after a step, by the step's event.
+pub mod Cells

@@ -1,0 +1,82 @@
+// The journal of a run: what each operation did, kept by a store or two a step. Cells hold step numbers or items.
+ghost use mathlib.Core.Path.{_≡_};
+ghost use Prim.Native.Nat.{_<_, max};
+ghost use lib.ListN.{length};
+ghost use Rattle.basics.specs.Maps.{at, upd};
+ghost use Rattle.journal.specs.Cells.{cells, noted, earlier, Room};
+use machine::Event;
+use machine::Operation;
+use machine::Step;
+
+// Stores a value in a cell.
+pub fn store(cell: &mut [u16], i: u16, v: u16)
+    requires { ⌜ i < length (now cell) ⌝ }
+    ensures { λ r. ⌜ at (now (cell .exit)) ≡ upd (at (now (cell .entry))) i v ⌝ }
+{
+    cell[i as usize] = v;
+}
+
+// Stores a step in a cell that has none yet.
+pub fn store_first(cell: &mut [u16], i: u16, k: Step)
+    requires { ⌜ i < length (now cell) ⌝ }
+    ensures { λ r. ⌜ at (now (cell .exit)) ≡ upd (at (now (cell .entry))) i (earlier (at (now (cell .entry)) i) (k .0)) ⌝ }
+{
+    let at = i as usize;
+    if cell[at] == 0 {
+        cell[at] = k.0;
+    }
+}
+
+// Stores a step in a cell whose step is not later.
+fn store_later(cell: &mut [u16], i: u16, k: u16)
+    requires { ⌜ i < length (now cell) ⌝ }
+    ensures { λ r. ⌜ at (now (cell .exit)) ≡ upd (at (now (cell .entry))) i (max (at (now (cell .entry)) i) k) ⌝ }
+{
+    let at = i as usize;
+    if cell[at] < k {
+        cell[at] = k;
+    }
+}
+
+// T5 moved Head: the operation took the item, whose line stands at the first such step.
+fn note_move(n: u16, o: u16, k: Step, taken: &mut [u16], stands: &mut [u16])
+    requires { ⌜ (o < length (now taken)) × (n < length (now stands)) ⌝ }
+    ensures { λ r. ⌜ at (now (taken .exit)) ≡ upd (at (now (taken .entry))) o n ⌝ }
+    ensures { λ r. ⌜ at (now (stands .exit)) ≡ upd (at (now (stands .entry))) n (earlier (at (now (stands .entry)) n) (k .0)) ⌝ }
+{
+    store(taken, o, n);
+    store_first(stands, n, k);
+}
+
+// R3: the operation took the item, whose line stands at the latest of its takers' last rounds.
+fn note_raise(t: u16, o: u16, start: &[u16], taken: &mut [u16], stands: &mut [u16])
+    requires { ⌜ (o < length (now start)) × (o < length (now taken)) × (t < length (now stands)) ⌝ }
+    ensures { λ r. ⌜ at (now (taken .exit)) ≡ upd (at (now (taken .entry))) o t ⌝ }
+    ensures { λ r. ⌜ at (now (stands .exit)) ≡ upd (at (now (stands .entry))) t (max (at (now (stands .entry)) t) (at (now (start .entry)) o)) ⌝ }
+{
+    store(taken, o, t);
+    store_later(stands, t, start[o as usize]);
+}
+
+// Notes the event of step k, which operation o made.
+pub fn note(
+    event: Event,
+    o: Operation,
+    k: Step,
+    start: &mut [u16],
+    link: &mut [u16],
+    taken: &mut [u16],
+    stands: &mut [u16],
+)
+    requires { ⌜ Room event (o .0) (length (now start)) (length (now link)) (length (now taken)) (length (now stands)) ⌝ }
+    ensures { λ r. ⌜ cells (now (start .exit)) (now (link .exit)) (now (taken .exit)) (now (stands .exit)) ≡ noted event (o .0) (k .0) (cells (now (start .entry)) (now (link .entry)) (now (taken .entry)) (now (stands .entry))) ⌝ }
+{
+    match event {
+        Event::Quiet => {}
+        Event::Round => store(start, o.0, k.0),
+        Event::Linked => store(link, o.0, k.0),
+        Event::Moved(n) => note_move(n, o.0, k, taken, stands),
+        Event::Late(n) => store(taken, o.0, n),
+        Event::Raised(t) => note_raise(t, o.0, start, taken, stands),
+    }
+}
