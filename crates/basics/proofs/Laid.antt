@@ -1,13 +1,13 @@
 -- Bytes laid behind one another from the front of a memory: what stands there, what is to come, and what is behind it.
 -- A loop that copies, clears or lays one thing behind the other keeps `Laid`. Assumes nothing.
 use mathlib.Core.Path.{_≡_, refl, sym, ap, subst, _∙_}
-use Prim.Native.Nat.{ℕ, suc, _+_, _-_, _≤_, _<_}
-use native.Mathlib.Nat.{add-assoc}
+use Prim.Native.Nat.{ℕ, _+_, _-_, _*_, _≤_, _<_}
+use native.Mathlib.Nat.{mul-suc}
 use native.Mathlib.Numerals.{add-one}
 use native.Mathlib.Omega.{arith}
 use mathlib.Core.List.{List, [], _∷_, _++_, append-assoc, append-nil}
-use lib.ListN.{length, take, drop, getD, set, replicate, length-replicate, getD-replicate, drop-of-length-le, length-append, length-take, length-drop, take-append-drop}
-use lib.Seq.{take-at, drop-at, drop-drop, set-split, append-snoc, drop-cons, length-take-le}
+use lib.ListN.{length, take, drop, getD, set, replicate, length-replicate, getD-replicate, drop-of-length-le, length-append, length-drop, take-append-drop}
+use lib.Seq.{take-at, drop-at, drop-drop, set-split, drop-cons, length-take-le}
 
 -- the memory `m`, which was `start`: before `at` stands all of `whole` but the `rest` at its end, and from there on all is as it was
 pub record Laid (start m : List ℕ) (at : ℕ) (rest whole : List ℕ) : Type 0 where
@@ -65,3 +65,15 @@ laid-zero {start} {m} {i} {n} l more room =
     let zeros : List ℕ = replicate n 0 in
     let size : length zeros ≡ n = length-replicate n 0 in
     subst (λ (x : ℕ). Laid start (set m i x) (i + 1) (drop (i + 1) zeros) zeros) (getD-replicate n i 0 0 more) (laid-copied l (omega arith) room)
+
+-- pieces of one size: the next one, and the end
+pub laid-piece : {start m rest whole : List ℕ} (size i : ℕ) (m′ new : List ℕ) → Laid start m (size * i) (new ++ rest) whole → length new ≡ size
+    → size * i + size ≤ length m → m′ ≡ take (size * i) m ++ (new ++ drop (length new) (drop (size * i) m)) → Laid start m′ (size * (i + 1)) rest whole
+laid-piece {start} {m} {rest} {whole} size i m′ new l e room is =
+    let next : size * i + length new ≡ size * (i + 1) = ap (λ (k : ℕ). size * i + k) e ∙ sym (mul-suc size i) ∙ ap (λ (k : ℕ). size * k) (sym (add-one i)) in
+    subst (λ (k : ℕ). Laid start m′ k rest whole) next (laid-more m′ new l (omega arith) is)
+
+pub laid-whole : {start m whole : List ℕ} {at : ℕ} → Laid start m at [] whole → at ≤ length m → m ≡ whole ++ drop (length whole) start
+laid-whole {start} {m} {whole} {at} l room =
+    let size : length whole ≡ at = ap length (sym (l .front) ∙ append-nil (take at m)) ∙ length-take-le at m room in
+    laid-all l ∙ ap (λ (k : ℕ). whole ++ drop k start) (sym size)

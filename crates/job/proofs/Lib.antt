@@ -4,3 +4,4 @@ pub mod Tests
 pub mod Blocks
 pub mod Table
 pub mod Accepted
+pub mod Padded

@@ -1,10 +1,14 @@
 -- A part of a memory is lent, and something is laid over the front of that part: what the whole is then. Assumes nothing.
 use mathlib.Core.Path.{_≡_, refl, sym, ap, subst, _∙_}
-use Prim.Native.Nat.{ℕ, zero, suc, _+_, _-_, _≤_}
+use mathlib.Core.Logic.{_⊎_, inl, inr}
+use Prim.Native.Nat.{ℕ, zero, suc, _+_, _-_, min, _≤_, _<_}
+use mathlib.Core.Bool.{true, false}
 use native.Mathlib.Omega.{arith}
 use mathlib.Core.List.{List, [], _∷_, _++_, append-assoc, append-nil}
 use lib.ListN.{length, take, drop, replicate, length-append, length-drop, length-replicate, drop-of-length-le}
 use lib.Seq.{take-at, drop-at, drop-drop, take-all, length-take-le}
+use Rattle.basics.specs.Choice.{less}
+use Rattle.basics.proofs.Choice.{both, less-lt, less-le}
 use Rattle.memory.specs.Over.{over}
 
 -- the part's rest and what is behind the part
@@ -63,3 +67,16 @@ pub drop-more : (x y : List ℕ) (a b : ℕ) → a ≤ b → drop a x ≡ drop a
 drop-more x y a b h e =
     let k : b ≡ a + (b - a) = omega arith in
     ap (λ (n : ℕ). drop n x) k ∙ sym (drop-drop (b - a) a x) ∙ ap (drop (b - a)) e ∙ drop-drop (b - a) a y ∙ ap (λ (n : ℕ). drop n y) (sym k)
+
+-- so many bytes of a list from a place on, or all that are there
+pub take-within : (l : List ℕ) (a n e : ℕ) → e ≡ min (a + n) (length l) → take (e - a) (drop a l) ≡ take n (drop a l)
+take-within l a n e is = go (both (less n (length (drop a l))))
+  where
+    behind : length (drop a l) ≡ length l - a
+    behind = length-drop a l
+
+    go : (less n (length (drop a l)) ≡ true) ⊎ (less n (length (drop a l)) ≡ false) → take (e - a) (drop a l) ≡ take n (drop a l)
+    go (inl h) = let more : n < length (drop a l) = less-lt h in ap (λ (k : ℕ). take k (drop a l)) (let q : e - a ≡ n = omega (arith, behind) in q)
+    go (inr h) =
+        let all : length (drop a l) ≤ n = less-le h in
+        take-all (e - a) (drop a l) (omega (arith, behind)) ∙ sym (take-all n (drop a l) all)

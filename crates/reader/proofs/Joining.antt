@@ -4,10 +4,9 @@ use mathlib.Core.Logic.{_≢_}
 use Prim.Native.Nat.{ℕ, _+_, _-_, _*_, _≤_, _<_}
 use native.Mathlib.Nat.{sub-zero}
 use native.Mathlib.Omega.{arith}
-use mathlib.Core.List.{List, [], _++_, append-nil}
+use mathlib.Core.List.{List, [], _++_}
 use lib.ListN.{length, take, drop, take-append-drop}
-use lib.Seq.{length-take-le}
-use Rattle.basics.proofs.Laid.{Laid, laid-none, laid-more, laid-all}
+use Rattle.basics.proofs.Laid.{Laid, laid-none, laid-piece, laid-whole}
 use Rattle.memory.specs.Over.{over}
 use Rattle.memory.proofs.Over.{drop-more}
 use Rattle.block.specs.Block.{block-size, payload-size, payload-of, block-refusal}
@@ -45,14 +44,15 @@ module _ {file start m m′ : List ℕ} {n i : ℕ} (j : Joining file start m n 
   unfolding payload-size block-size bytes-of
   joining-next whole room e =
       let b : List ℕ = block-at file i in
-      let size : length (payload-of b) ≡ payload-size = length-payload b (length-block-at file i (omega arith)) in
       let good : block-refusal i b ≡ 0 = sym (t .0) ∙ ap number-of e in
-      let laid : Laid start m′ (payload-size * i + length (payload-of b)) (payloads file (i + 1) (n - (i + 1))) (payloads file 0 n) =
-      laid-more m′ (payload-of b) (subst (λ (x : List ℕ). Laid start m (payload-size * i) x (payloads file 0 n)) (payloads-next file more) (j .laid)) (omega arith) (t .1 ∙ ap (λ (a : Answer). take (payload-size * i) m ++ over (bytes-of a b) (drop (payload-size * i) m)) e)
-      in
       record {
         low = omega arith;
-        laid = subst (λ (k : ℕ). Laid start m′ k (payloads file (i + 1) (n - (i + 1))) (payloads file 0 n)) (let p : payload-size * i + length (payload-of b) ≡ payload-size * (i + 1) = omega arith in p) laid;
+        laid =
+            laid-piece payload-size i m′ (payload-of b)
+            (subst (λ (x : List ℕ). Laid start m (payload-size * i) x (payloads file 0 n)) (payloads-next file more) (j .laid))
+            (length-payload b (length-block-at file i (omega arith)))
+            (omega arith)
+            (t .1 ∙ ap (λ (a : Answer). take (payload-size * i) m ++ over (bytes-of a b) (drop (payload-size * i) m)) e);
         decided = refusal-next file more good ∙ j .decided;
       }
 
@@ -80,8 +80,4 @@ module _ {file start m : List ℕ} {n i : ℕ} (j : Joining file start m n i) (d
   pub all-joined : payload-size * n ≤ length m → m ≡ over (payloads file 0 n) start
   unfolding payload-size
   all-joined room =
-      let last : Laid start m (payload-size * i) [] (payloads file 0 n) = subst (λ (x : List ℕ). Laid start m (payload-size * i) x (payloads file 0 n)) (payloads-end file done) (j .laid) in
-      let size : length (payloads file 0 n) ≡ payload-size * i =
-      ap length (sym (last .front) ∙ append-nil (take (payload-size * i) m)) ∙ length-take-le (payload-size * i) m (omega (arith, j .low))
-      in
-      laid-all last ∙ ap (λ (k : ℕ). payloads file 0 n ++ drop k start) (sym size)
+      laid-whole (subst (λ (x : List ℕ). Laid start m (payload-size * i) x (payloads file 0 n)) (payloads-end file done) (j .laid)) (omega (arith, j .low))
