@@ -3,3 +3,4 @@ pub mod Choice
 pub mod Maps
 pub mod Words
 pub mod Text
+pub mod Bytes

@@ -1,2 +1,3 @@
 -- The block of a job file, after document 01, "Job files".
 pub mod Block
+pub mod Answer

@@ -1,7 +1,185 @@
-// The words of a job that code and definitions share.
+// The stream of a job: its fields, and the conditions of document 01's table that are about a stream.
+use block::Answer;
+use memory::word_at;
+ghost use mathlib.Core.Path.{_≡_};
+ghost use Prim.Native.Nat.{_+_, _≤_, _<_};
+ghost use lib.ListN.{length};
+ghost use Rattle.job.specs.Stream.{operations, schedule-length, stream-length, record-at};
+ghost use Rattle.job.specs.Refusals.{first-met, outside, exact-count, bad-record, bad-records, bad-schedule, bad-padding, header-conditions, list-conditions};
 
 // Document 01: "kind (1 queue, 2 stack)".
 pub enum Kind {
     Queue,
     Stack,
+}
+
+// What a call answers: a number of document 01's table, 0 where it is accepted, and a length.
+pub struct Reply {
+    pub number: u8,
+    pub length: usize,
+}
+
+impl Reply {
+    // The limits of a job: P, N and S.
+    const MOST_PROCESSES: u16 = 8;
+
+    const MOST_OPERATIONS: u16 = 256;
+
+    const MOST_STEPS: u16 = 16384;
+    // Blocks of the longest file, its bytes, and those of its joined stream.
+    const MOST_BLOCKS: usize = 35;
+
+    pub const MOST_FILE: usize = Reply::MOST_BLOCKS * Answer::BLOCK;
+
+    pub const MOST_STREAM: usize = Reply::MOST_BLOCKS * Answer::PAYLOAD;
+
+    // "A refusal gives its number and length 0".
+    pub fn refused(number: u8) -> Reply
+        ensures { λ r. ⌜ (r .number ≡ number) × (r .length ≡ 0) ⌝ }
+    {
+        Reply { number, length: 0 }
+    }
+}
+
+// The number of operations.
+pub fn operations(s: &[u8]) -> u16
+    requires { ⌜ 6 ≤ length (now s) ⌝ }
+    ensures { λ r. ⌜ r ≡ operations (now (s .entry)) ⌝ }
+{
+    word_at(s, 2)
+}
+
+// The length of the schedule.
+pub fn schedule_length(s: &[u8]) -> u16
+    requires { ⌜ 6 ≤ length (now s) ⌝ }
+    ensures { λ r. ⌜ r ≡ schedule-length (now (s .entry)) ⌝ }
+{
+    word_at(s, 4)
+}
+
+// The length of the stream itself, without padding.
+pub fn stream_length(s: &[u8]) -> u32
+    requires { ⌜ 6 ≤ length (now s) ⌝ }
+    ensures { λ r. ⌜ r ≡ stream-length (now (s .entry)) ⌝ }
+{
+    6 + 4 * (operations(s) as u32) + schedule_length(s) as u32
+}
+
+// The exact number of blocks.
+pub fn exact_count(s: &[u8]) -> usize
+    requires { ⌜ 6 ≤ length (now s) ⌝ }
+    ensures { λ r. ⌜ r ≡ exact-count (now (s .entry)) ⌝ }
+{
+    (stream_length(s) as usize + (Answer::PAYLOAD - 1)) / Answer::PAYLOAD
+}
+
+fn outside(low: u16, high: u16, n: u16) -> bool
+    ensures { λ r. ⌜ r ≡ outside low high n ⌝ }
+{
+    if n < low {
+        return true;
+    }
+    high < n
+}
+
+// The numbers 5 to 8, and 0 where the header meets none.
+pub fn header(s: &[u8]) -> u8
+    requires { ⌜ 6 ≤ length (now s) ⌝ }
+    ensures { λ r. ⌜ r ≡ first-met (header-conditions (now (s .entry))) ⌝ }
+{
+    if outside(1, 2, s[0] as u16) {
+        return 5;
+    }
+    if outside(1, Reply::MOST_PROCESSES, s[1] as u16) {
+        return 6;
+    }
+    if outside(1, Reply::MOST_OPERATIONS, operations(s)) {
+        return 7;
+    }
+    if Reply::MOST_STEPS < schedule_length(s) {
+        return 8;
+    }
+    0
+}
+
+// Is the record of an operation out of range?
+fn bad_record(s: &[u8], o: usize) -> bool
+    requires { ⌜ (1 ≤ o) × (record-at o + 4 ≤ length (now s)) ⌝ }
+    ensures { λ r. ⌜ r ≡ bad-record (now (s .entry)) o ⌝ }
+{
+    let place = 2 + 4 * o;
+    let action = s[place + 1];
+    if s[place] >= s[1] {
+        return true;
+    }
+    if outside(1, 2, action as u16) {
+        return true;
+    }
+    if action == 2 {
+        return word_at(s, place + 2) != 0;
+    }
+    false
+}
+
+// Is a record out of range?
+fn bad_records(s: &[u8]) -> bool
+    requires { ⌜ stream-length (now s) ≤ length (now s) ⌝ }
+    ensures { λ r. ⌜ r ≡ bad-records (now (s .entry)) ⌝ }
+{
+    let end = operations(s) as usize + 1;
+    let mut o: usize = 1;
+    while o < end {
+        if bad_record(s, o) {
+            return true;
+        }
+        o += 1;
+    }
+    false
+}
+
+// Is an entry of the schedule out of range?
+fn bad_schedule(s: &[u8]) -> bool
+    requires { ⌜ stream-length (now s) ≤ length (now s) ⌝ }
+    ensures { λ r. ⌜ r ≡ bad-schedule (now (s .entry)) ⌝ }
+{
+    let before = 5 + 4 * (operations(s) as usize);
+    let end = schedule_length(s) as usize + 1;
+    let processes = s[1];
+    let mut k: usize = 1;
+    while k < end {
+        if s[before + k] >= processes {
+            return true;
+        }
+        k += 1;
+    }
+    false
+}
+
+// The numbers 10 and 11, and 0 where the records and the schedule meet none.
+pub fn lists(s: &[u8]) -> u8
+    requires { ⌜ stream-length (now s) ≤ length (now s) ⌝ }
+    ensures { λ r. ⌜ r ≡ first-met (list-conditions (now (s .entry))) ⌝ }
+{
+    if bad_records(s) {
+        return 10;
+    }
+    if bad_schedule(s) {
+        return 11;
+    }
+    0
+}
+
+// Is a byte behind the stream not zero?
+pub fn bad_padding(s: &[u8]) -> bool
+    requires { ⌜ stream-length (now s) ≤ length (now s) ⌝ }
+    ensures { λ r. ⌜ r ≡ bad-padding (now (s .entry)) ⌝ }
+{
+    let mut i = stream_length(s) as usize;
+    while i < s.len() {
+        if s[i] != 0 {
+            return true;
+        }
+        i += 1;
+    }
+    false
 }

@@ -1,0 +1,95 @@
+-- Laws of conditions: the first one met, a test over a stretch of numbers, and a range. Assumes nothing.
+use mathlib.Core.Path.{_≡_, refl, sym, ap, _∙_}
+use mathlib.Core.Logic.{_≢_, _⊎_, inl, inr}
+use Prim.Native.Nat.{ℕ, zero, suc, _+_, _-_, _≤_, _<_}
+use native.Mathlib.Numerals.{add-one}
+use native.Mathlib.Omega.{arith}
+use mathlib.Core.Bool.{Bool, true, false, not, _||_, or-true, true≢false}
+use mathlib.Core.List.{List, [], _∷_, _++_}
+use lib.Dec.{ltb}
+use Rattle.basics.specs.Choice.{pick, same, less}
+use Rattle.basics.proofs.Choice.{pick-true, pick-false, pick-elim, lt-less, le-less, equal-same, unequal-same, same-equal, both}
+use Rattle.job.specs.Refusals.{first-met, any, outside}
+
+pub met-here : (n : ℕ) {b : Bool} (l : List (ℕ × Bool)) → b ≡ true → n ≡ first-met ((n, b) ∷ l)
+unfolding first-met
+met-here n l e = simp (e, pick-true)
+
+pub met-later : {r : ℕ} (n : ℕ) {b : Bool} (l : List (ℕ × Bool)) → b ≡ false → r ≡ first-met l → r ≡ first-met ((n, b) ∷ l)
+unfolding first-met
+met-later n l e later = simp (e, pick-false) later
+
+pub met-none : 0 ≡ first-met []
+unfolding first-met
+met-none = refl
+
+-- a stretch from `i` up to `n`: what the next number says
+module _ (f : ℕ → Bool) {i n : ℕ} where
+  pub any-met : i < n → f i ≡ true → true ≡ any f i (n - i)
+  unfolding any
+  any-met h e = simp (left, e)
+    where
+      left : n - i ≡ suc (n - (i + 1))
+      left = omega arith
+
+  pub any-next : i < n → f i ≡ false → any f (i + 1) (n - (i + 1)) ≡ any f i (n - i)
+  unfolding any
+  any-next h e = simp (left, e, add-one)
+    where
+      left : n - i ≡ suc (n - (i + 1))
+      left = omega arith
+
+  pub any-end : n ≤ i → false ≡ any f i (n - i)
+  unfolding any
+  any-end h = simp none
+    where
+      none : n - i ≡ zero
+      none = omega arith
+
+pub below-outside : (low high n : ℕ) → n < low → true ≡ outside low high n
+unfolding outside
+below-outside low high n h = simp (lt-less h)
+
+pub above-outside : (low high n : ℕ) → low ≤ n → ltb high n ≡ outside low high n
+unfolding outside less
+above-outside low high n h = simp (le-less h)
+
+-- two lists of conditions: the first decides where it has one that is met
+pub met-front : (l m : List (ℕ × Bool)) → first-met l ≢ 0 → first-met l ≡ first-met (l ++ m)
+unfolding first-met
+met-front [] m h = absurd (h refl)
+met-front (c ∷ l) m h = pick-elim (λ (x : ℕ). x ≢ 0 → x ≡ pick (c .1) (c .0) (first-met (l ++ m))) (c .1) (c .0) (first-met l) (λ e z. simp (e, pick-true)) (λ e z. simp (e, pick-false) (met-front l m z)) h
+
+-- where every number is one of the table's, 0 says that none is met
+abbrev pub Numbered : List (ℕ × Bool) → Type 0
+Numbered [] = Unit
+Numbered (c ∷ l) = (c .0 ≢ 0) × Numbered l
+
+pub met-back : (l m : List (ℕ × Bool)) → Numbered l → first-met l ≡ 0 → first-met m ≡ first-met (l ++ m)
+unfolding first-met
+met-back [] m n z = refl
+met-back (c ∷ l) m n z = pick-elim (λ (x : ℕ). x ≡ 0 → first-met m ≡ pick (c .1) (c .0) (first-met (l ++ m))) (c .1) (c .0) (first-met l) (λ e z′. absurd (n .0 z′)) (λ e z′. simp (e, pick-false) (met-back l m (n .1) z′)) z
+
+-- no condition of a list is met
+abbrev pub Unmet : List (ℕ × Bool) → Type 0
+Unmet [] = Unit
+Unmet (c ∷ l) = (c .1 ≡ false) × Unmet l
+
+pub zero-unmet : (l : List (ℕ × Bool)) → Numbered l → first-met l ≡ 0 → Unmet l
+unfolding first-met
+zero-unmet [] n z = tt
+zero-unmet (c ∷ l) n z = go (both (c .1)) (zero-unmet l (n .1))
+  where
+    go : (c .1 ≡ true) ⊎ (c .1 ≡ false) → (first-met l ≡ 0 → Unmet l) → (c .1 ≡ false) × Unmet l
+    go (inl e) later = absurd (n .0 (sym (pick-true (c .0) (first-met l)) ∙ ap (λ (b : Bool). pick b (c .0) (first-met l)) (sym e) ∙ z))
+    go (inr e) later = (e, later (sym (pick-false (c .0) (first-met l)) ∙ ap (λ (b : Bool). pick b (c .0) (first-met l)) (sym e) ∙ z))
+
+pub unmet-zero : (l : List (ℕ × Bool)) → Unmet l → first-met l ≡ 0
+unfolding first-met
+unmet-zero [] u = refl
+unmet-zero (c ∷ l) u = ap (λ (b : Bool). pick b (c .0) (first-met l)) (u .0) ∙ pick-false (c .0) (first-met l) ∙ unmet-zero l (u .1)
+
+-- a choice of two tests that both fail
+pub or-both : (a b : Bool) → a || b ≡ false → (a ≡ false) × (b ≡ false)
+or-both true b e = absurd (true≢false e)
+or-both false b e = (refl, e)

@@ -1,0 +1,7 @@
+-- Laws of conditions and streams.
+pub mod Conditions
+pub mod Tests
+pub mod Blocks
+pub mod Table
+pub mod Accepted
+pub mod Padded

@@ -1,0 +1,96 @@
+-- The blocks of a padded stream. Assumes nothing.
+use mathlib.Core.Path.{_≡_, refl, sym, ap, _∙_}
+use Prim.Native.Nat.{ℕ, zero, suc, _+_, _-_, _*_, _≤_, _<_}
+use native.Mathlib.Numerals.{add-one}
+use native.Mathlib.Omega.{arith}
+use mathlib.Core.Bool.{Bool, false, _||_}
+use mathlib.Core.List.{List, [], _∷_, _++_}
+use lib.ListN.{length, take, drop, replicate, length-append, length-take, length-drop, length-replicate}
+use lib.Seq.{drop-append-le}
+use Rattle.basics.specs.Choice.{less}
+use Rattle.basics.proofs.Choice.{less-le}
+use Rattle.memory.proofs.Over.{length-part}
+use Rattle.block.specs.Block.{block-size, payload-size, block}
+use Rattle.block.specs.Answer.{filled}
+use Rattle.block.proofs.Accepted.{length-block}
+use Rattle.block.proofs.Sizes.{length-filled}
+use Rattle.job.specs.Stream.{operations, schedule-length, stream-length}
+use Rattle.job.specs.Refusals.{exact-count, outside, most-operations, most-steps, bad-operations, bad-schedule-length}
+use Rattle.job.specs.File.{most-blocks, zeros, blocks, padded, file-of}
+use Rattle.job.proofs.Accepted.{Fine, Good-stream}
+use Rattle.job.proofs.Conditions.{or-both}
+use Rattle.job.proofs.Table.{exact-room, exact-least}
+
+take-of-zeros : (n z : ℕ) → n ≤ z → take n (zeros z) ≡ zeros n
+unfolding zeros
+take-of-zeros zero z h = refl
+take-of-zeros (suc n) zero h = absurd (omega arith)
+take-of-zeros (suc n) (suc z) h = ap (λ (t : List ℕ). 0 ∷ t) (take-of-zeros n z (omega arith))
+
+-- so many bytes of a list with zeros behind it: those of the list, and zeros
+take-padded : (l : List ℕ) (n z : ℕ) → n ≤ length l + z → take n (l ++ zeros z) ≡ take n l ++ zeros (n - length (take n l))
+unfolding zeros
+take-padded l zero z h = refl
+take-padded [] (suc n) z h = take-of-zeros (suc n) z (omega arith) ∙ ap zeros (let e : suc n ≡ suc n - 0 = omega arith in e)
+take-padded (x ∷ l) (suc n) z h =
+    ap (λ (t : List ℕ). x ∷ t)
+    (take-padded l n z (omega arith)
+    ∙ ap (λ (k : ℕ). take n l ++ zeros k) (let e : n - length (take n l) ≡ suc n - suc (length (take n l)) = omega arith in e))
+
+-- the payload of a block: the stream's own bytes there, filled with zeros
+pub payload-filled : (s : List ℕ) (i : ℕ) → payload-size * i ≤ length s → i < exact-count s
+    → take payload-size (drop (payload-size * i) (padded s)) ≡ filled (take payload-size (drop (payload-size * i) s))
+unfolding padded filled zeros payload-size
+payload-filled s i h more =
+    let z : ℕ = payload-size * exact-count s - length s in
+    ap (take payload-size) (drop-append-le (payload-size * i) s (zeros z) h)
+    ∙ take-padded (drop (payload-size * i) s) payload-size z (omega (arith, length-drop (payload-size * i) s))
+
+pub length-payload-filled : (s : List ℕ) (i : ℕ) → length (filled (take payload-size (drop (payload-size * i) s))) ≡ payload-size
+length-payload-filled s i = length-filled (take payload-size (drop (payload-size * i) s)) (omega (arith, length-take payload-size (drop (payload-size * i) s)))
+
+-- from the block at `i` up to block `n`: the next one, and the end
+module _ (s : List ℕ) {i n : ℕ} where
+  pub blocks-next : i < n → blocks s i (n - i) ≡ block i (take payload-size (drop (payload-size * i) s)) ++ blocks s (i + 1) (n - (i + 1))
+  unfolding blocks
+  blocks-next h = simp (left, add-one)
+    where
+      left : n - i ≡ suc (n - (i + 1))
+      left = omega arith
+
+  pub blocks-end : n ≤ i → blocks s i (n - i) ≡ []
+  unfolding blocks
+  blocks-end h = simp none
+    where
+      none : n - i ≡ zero
+      none = omega arith
+
+-- a stream in range wants no more blocks than a file may have
+pub fine-small : (s : List ℕ) → Fine s → exact-count s ≤ most-blocks
+unfolding exact-count stream-length payload-size most-blocks bad-operations bad-schedule-length outside most-operations most-steps
+fine-small s f =
+    let n : operations s ≤ most-operations = less-le (or-both (less (operations s) 1) (less most-operations (operations s)) (f .operations) .1) in
+    let k : schedule-length s ≤ most-steps = less-le (f .steps) in
+    omega arith
+
+pub length-blocks : (s : List ℕ) (i n : ℕ) → payload-size * (i + n) ≤ length s → length (blocks s i n) ≡ block-size * n
+unfolding blocks block-size payload-size
+length-blocks s i zero h = refl
+length-blocks s i (suc n) h =
+    let p : List ℕ = take payload-size (drop (payload-size * i) s) in
+    let own : length (block i p) ≡ block-size = length-block i p (length-part s (payload-size * i) payload-size (omega arith)) in
+    let later : length (blocks s (suc i) n) ≡ block-size * n = length-blocks s (suc i) n (omega arith) in
+    length-append (block i p) (blocks s (suc i) n) ∙ (let e : length (block i p) + length (blocks s (suc i) n) ≡ block-size * suc n = omega arith in e)
+
+pub length-padded : (s : List ℕ) → length s ≤ payload-size * exact-count s → length (padded s) ≡ payload-size * exact-count s
+unfolding padded zeros
+length-padded s h =
+    let z : List ℕ = zeros (payload-size * exact-count s - length s) in
+    let size : length z ≡ payload-size * exact-count s - length s = length-replicate (payload-size * exact-count s - length s) 0 in
+    let both : length (s ++ z) ≡ length s + length z = length-append s z in
+    omega arith
+
+pub length-file-of : (s : List ℕ) → length s ≡ stream-length s → length (file-of s) ≡ block-size * exact-count s
+unfolding file-of payload-size
+length-file-of s e =
+    length-blocks (padded s) 0 (exact-count s) (omega (arith, length-padded s (omega (arith, exact-room s))))

@@ -1,0 +1,2 @@
+-- Laws of what is laid over a memory.
+pub mod Over

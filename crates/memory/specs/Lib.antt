@@ -1,0 +1,2 @@
+-- What is laid over the front of a memory.
+pub mod Over

@@ -1,0 +1,2 @@
+-- What the reader's own functions leave for one another.
+pub mod Loaded

@@ -1,0 +1,134 @@
+// Reading a job file: its blocks into the lent work memory, and what the table says of them.
+use block::Answer;
+use block::give;
+use job::Reply;
+use job::bad_padding;
+use job::exact_count;
+use job::header;
+use job::lists;
+use job::stream_length;
+use memory::clear;
+ghost use mathlib.Core.Path.{_≡_};
+ghost use mathlib.Core.List.{_++_};
+ghost use Prim.Native.Nat.{_+_, _*_, _≤_, _<_};
+ghost use lib.ListN.{length, take, drop};
+ghost use Rattle.basics.specs.Choice.{pick, same};
+ghost use Rattle.memory.specs.Over.{over};
+ghost use Rattle.block.specs.Block.{block-size, payload-size, block-refusal};
+ghost use Rattle.block.specs.Answer.{number-of, bytes-of};
+ghost use Rattle.job.specs.Stream.{stream-length};
+ghost use Rattle.job.specs.File.{most-stream, block-at, payloads, blocks-refusal, bad-length};
+ghost use Rattle.job.specs.Calls.{read-number, read-length, read-work};
+ghost use Rattle.reader.specs.Loaded.{joined-refusal, Loaded};
+
+// The block at a position: its payload goes into the work memory behind the payloads before it, or nothing does.
+fn take_block(file: &[u8], i: usize, work: &mut [u8]) -> Answer
+    requires { ⌜ (i < 65536) × (block-size * i + block-size ≤ length (now file)) × (payload-size * i + payload-size ≤ length (now work)) ⌝ }
+    ensures number { λ r. ⌜ number-of r ≡ block-refusal i (block-at (now (file .entry)) i) ⌝ }
+    ensures payload { λ r. ⌜ now (work .exit) ≡ take (payload-size * i) (now (work .entry)) ++ over (bytes-of r (block-at (now (file .entry)) i)) (drop (payload-size * i) (now (work .entry))) ⌝ }
+{
+    let from = Answer::BLOCK * i;
+    let end = from + Answer::BLOCK;
+    let at = Answer::PAYLOAD * i;
+    give(&file[from..end], i as u16, &mut work[at..])
+}
+
+// All blocks, ascending, up to one that is refused: its number, or 0.
+fn join(file: &[u8], count: usize, work: &mut [u8]) -> u8
+    requires { ⌜ (count < 65536) × (length (now file) ≡ block-size * count) × (payload-size * count ≤ length (now work)) ⌝ }
+    ensures number { λ r. ⌜ r ≡ blocks-refusal (now (file .entry)) 0 count ⌝ }
+    ensures joined { λ r. ⌜ (r ≡ 0 → now (work .exit) ≡ over (payloads (now (file .entry)) 0 count) (now (work .entry))) ⌝ }
+    ensures behind { λ r. ⌜ drop (payload-size * count) (now (work .exit)) ≡ drop (payload-size * count) (now (work .entry)) ⌝ }
+{
+    let mut i: usize = 0;
+    while i < count {
+        let answer = take_block(file, i, work);
+        let Answer::Payload = answer else {
+            return answer.number();
+        };
+        i += 1;
+    }
+    0
+}
+
+// Number 2: is the length of a file none that a file can have?
+fn bad_length(file: &[u8]) -> bool
+    ensures { λ r. ⌜ r ≡ bad-length (now (file .entry)) ⌝ }
+{
+    if file.len() == 0 {
+        return true;
+    }
+    if Reply::MOST_FILE < file.len() {
+        return true;
+    }
+    file.len() % Answer::BLOCK != 0
+}
+
+// The numbers 5 to 12 of the joined stream of so many blocks, and 0 where it meets none.
+fn refusal(s: &[u8], count: usize) -> u8
+    requires { ⌜ (1 ≤ count) × (length (now s) ≡ payload-size * count) ⌝ }
+    ensures { λ r. ⌜ r ≡ joined-refusal (now (s .entry)) count ⌝ }
+{
+    let of_header = header(s);
+    if of_header != 0 {
+        return of_header;
+    }
+    if exact_count(s) != count {
+        return 9;
+    }
+    let of_lists = lists(s);
+    if of_lists != 0 {
+        return of_lists;
+    }
+    if bad_padding(s) {
+        return 12;
+    }
+    0
+}
+
+// The reply for the joined stream of so many blocks.
+fn reply(s: &[u8], count: usize) -> Reply
+    requires { ⌜ (1 ≤ count) × (length (now s) ≡ payload-size * count) ⌝ }
+    ensures number { λ r. ⌜ r .number ≡ joined-refusal (now (s .entry)) count ⌝ }
+    ensures size { λ r. ⌜ r .length ≡ pick (same (joined-refusal (now (s .entry)) count) 0) (stream-length (now (s .entry))) 0 ⌝ }
+{
+    let number = refusal(s, count);
+    if number != 0 {
+        return Reply::refused(number);
+    }
+    let length = stream_length(s) as usize;
+    Reply { number, length }
+}
+
+// The file's stream, with its padding, at the front of the work memory, and the reply.
+fn load(file: &[u8], work: &mut [u8]) -> Reply
+    requires { ⌜ most-stream ≤ length (now work) ⌝ }
+    ensures { λ r. ⌜ Loaded (now (file .entry)) (now (work .entry)) (now (work .exit)) r ⌝ }
+{
+    if bad_length(file) {
+        return Reply::refused(2);
+    }
+    let count = file.len() / Answer::BLOCK;
+    let of_blocks = join(file, count, work);
+    if of_blocks != 0 {
+        return Reply::refused(of_blocks);
+    }
+    let end = Answer::PAYLOAD * count;
+    reply(&work[..end], count)
+}
+
+// A read of a job file: document 01's number and length. Accepted, the first bytes of the work memory hold the stream and zeros;
+// refused, zeros; and too small, it is left alone.
+pub fn read(file: &[u8], work: &mut [u8]) -> Reply
+    ensures number { λ r. ⌜ r .number ≡ read-number (now (file .entry)) (now (work .entry)) ⌝ }
+    ensures size { λ r. ⌜ r .length ≡ read-length (now (file .entry)) (now (work .entry)) ⌝ }
+    ensures work { λ r. ⌜ now (work .exit) ≡ read-work (now (file .entry)) (now (work .entry)) ⌝ }
+{
+    if work.len() < Reply::MOST_STREAM {
+        return Reply::refused(1);
+    }
+    let r = load(file, work);
+    let length = r.length;
+    clear(&mut work[length..Reply::MOST_STREAM]);
+    r
+}
