@@ -4,3 +4,4 @@ pub mod Maps
 pub mod Words
 pub mod Text
 pub mod Laid
+pub mod Bytes

@@ -38,3 +38,11 @@ word-read x y n i size fits =
     ap (λ (k : ℕ). getD l k 0) (let e : suc i ≡ length x + 1 = omega arith in e) ∙ getD-append-add x (n / 256 % 256 ∷ n % 256 ∷ y) 1 0
     in
     omega arith
+
+-- equal numbers have equal bytes
+pub word-parts : (l m : List ℕ) (i : ℕ) → Bytes l → Bytes m → word l i ≡ word m i → (at l i ≡ at m i) × (at l (suc i) ≡ at m (suc i))
+unfolding word
+word-parts l m i h k e =
+    let low-l : at l (suc i) < 256 = h .byte (suc i) in
+    let low-m : at m (suc i) < 256 = k .byte (suc i) in
+    (omega arith, omega arith)

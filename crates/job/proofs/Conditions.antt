@@ -1,5 +1,5 @@
 -- Laws of conditions: the first one met, a test over a stretch of numbers, and a range. Assumes nothing.
-use mathlib.Core.Path.{_≡_, refl, sym, ap, _∙_}
+use mathlib.Core.Path.{_≡_, refl, sym, ap, ap₂, _∙_}
 use mathlib.Core.Logic.{_≢_, _⊎_, inl, inr}
 use Prim.Native.Nat.{ℕ, zero, suc, _+_, _-_, _≤_, _<_}
 use native.Mathlib.Numerals.{add-one}
@@ -8,7 +8,7 @@ use mathlib.Core.Bool.{Bool, true, false, not, _||_, or-true, true≢false}
 use mathlib.Core.List.{List, [], _∷_, _++_}
 use lib.Dec.{ltb}
 use Rattle.basics.specs.Choice.{pick, same, less}
-use Rattle.basics.proofs.Choice.{pick-true, pick-false, pick-elim, lt-less, le-less, equal-same, unequal-same, same-equal, both}
+use Rattle.basics.proofs.Choice.{pick-true, pick-false, pick-elim, lt-less, le-less, equal-same, unequal-same, same-equal, both, split}
 use Rattle.job.specs.Refusals.{first-met, any, outside}
 
 pub met-here : (n : ℕ) {b : Bool} (l : List (ℕ × Bool)) → b ≡ true → n ≡ first-met ((n, b) ∷ l)
@@ -93,3 +93,18 @@ unmet-zero (c ∷ l) u = ap (λ (b : Bool). pick b (c .0) (first-met l)) (u .0) 
 pub or-both : (a b : Bool) → a || b ≡ false → (a ≡ false) × (b ≡ false)
 or-both true b e = absurd (true≢false e)
 or-both false b e = (refl, e)
+
+-- a test that fails at every number of a stretch fails over it, and the other way round
+pub any-none : (f : ℕ → Bool) (i n : ℕ) → ((j : ℕ) → i ≤ j → j < i + n → f j ≡ false) → any f i n ≡ false
+unfolding any
+any-none f i zero h = refl
+any-none f i (suc n) h = ap₂ _||_ (h i (omega arith) (omega arith)) (any-none f (suc i) n (λ j a b. h j (omega arith) (omega arith)))
+
+pub any-each : (f : ℕ → Bool) (i n : ℕ) → any f i n ≡ false → (j : ℕ) → i ≤ j → j < i + n → f j ≡ false
+unfolding any
+any-each f i zero e j a b = absurd (omega arith)
+any-each f i (suc n) e j a b = by-place (split i j) (any-each f (suc i) n (or-both (f i) (any f (suc i) n) e .1))
+  where
+    by-place : (i ≡ j) ⊎ (i ≢ j) → ((l : ℕ) → suc i ≤ l → l < suc i + n → f l ≡ false) → f j ≡ false
+    by-place (inl p) later = ap f (sym p) ∙ or-both (f i) (any f (suc i) n) e .0
+    by-place (inr p) later = later j (omega arith) (omega arith)

@@ -5,3 +5,8 @@ pub mod Blocks
 pub mod Table
 pub mod Accepted
 pub mod Padded
+pub mod Pieces
+pub mod Alike
+pub mod Written
+pub mod Restored
+pub mod OneFile

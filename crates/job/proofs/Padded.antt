@@ -19,7 +19,8 @@ use Rattle.job.specs.Refusals.{exact-count, outside, most-operations, mo
 use Rattle.job.specs.File.{most-blocks, zeros, blocks, padded, file-of}
 use Rattle.job.proofs.Accepted.{Fine, Good-stream}
 use Rattle.job.proofs.Conditions.{or-both}
-use Rattle.job.proofs.Table.{exact-room, exact-least}
+use Rattle.job.proofs.Table.{exact-room}
+use Rattle.job.proofs.Pieces.{pieces, length-pieces}
 
 take-of-zeros : (n z : ℕ) → n ≤ z → take n (zeros z) ≡ zeros n
 unfolding zeros
@@ -73,14 +74,18 @@ fine-small s f =
     let k : schedule-length s ≤ most-steps = less-le (f .steps) in
     omega arith
 
-pub length-blocks : (s : List ℕ) (i n : ℕ) → payload-size * (i + n) ≤ length s → length (blocks s i n) ≡ block-size * n
-unfolding blocks block-size payload-size
-length-blocks s i zero h = refl
-length-blocks s i (suc n) h =
-    let p : List ℕ = take payload-size (drop (payload-size * i) s) in
-    let own : length (block i p) ≡ block-size = length-block i p (length-part s (payload-size * i) payload-size (omega arith)) in
-    let later : length (blocks s (suc i) n) ≡ block-size * n = length-blocks s (suc i) n (omega arith) in
-    length-append (block i p) (blocks s (suc i) n) ∙ (let e : length (block i p) + length (blocks s (suc i) n) ≡ block-size * suc n = omega arith in e)
+-- the blocks are pieces of one length
+pub blocks-are : (s : List ℕ) (i n : ℕ) → blocks s i n ≡ pieces (λ j. block j (take payload-size (drop (payload-size * j) s))) i n
+unfolding blocks pieces
+blocks-are s i zero = refl
+blocks-are s i (suc n) = ap (λ (t : List ℕ). block i (take payload-size (drop (payload-size * i) s)) ++ t) (blocks-are s (suc i) n)
+
+pub length-own-payload : (s : List ℕ) (n j : ℕ) → length s ≡ payload-size * n → j < n → length (take payload-size (drop (payload-size * j) s)) ≡ payload-size
+unfolding payload-size
+length-own-payload s n j whole more = length-part s (payload-size * j) payload-size (omega arith)
+
+pub length-own-block : (s : List ℕ) (n j : ℕ) → length s ≡ payload-size * n → j < n → length (block j (take payload-size (drop (payload-size * j) s))) ≡ block-size
+length-own-block s n j whole more = length-block j (take payload-size (drop (payload-size * j) s)) (length-own-payload s n j whole more)
 
 pub length-padded : (s : List ℕ) → length s ≤ payload-size * exact-count s → length (padded s) ≡ payload-size * exact-count s
 unfolding padded zeros
@@ -90,7 +95,13 @@ length-padded s h =
     let both : length (s ++ z) ≡ length s + length z = length-append s z in
     omega arith
 
+-- a stream without padding is padded to whole blocks
+pub whole-padded : (s : List ℕ) → length s ≡ stream-length s → length (padded s) ≡ payload-size * exact-count s
+whole-padded s e = length-padded s (omega (arith, exact-room s))
+
 pub length-file-of : (s : List ℕ) → length s ≡ stream-length s → length (file-of s) ≡ block-size * exact-count s
-unfolding file-of payload-size
+unfolding file-of
 length-file-of s e =
-    length-blocks (padded s) 0 (exact-count s) (omega (arith, length-padded s (omega (arith, exact-room s))))
+    ap length (blocks-are (padded s) 0 (exact-count s))
+    ∙ length-pieces (λ j. block j (take payload-size (drop (payload-size * j) (padded s)))) block-size 0 (exact-count s)
+    (λ j a b. length-own-block (padded s) (exact-count s) j (whole-padded s e) (omega arith))

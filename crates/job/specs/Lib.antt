@@ -4,3 +4,4 @@ pub mod Refusals
 pub mod File
 pub mod Calls
 pub mod Job
+pub mod RoundTrip

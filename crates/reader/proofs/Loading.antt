@@ -35,8 +35,8 @@ refused-loaded {file} {start} {work} {r} number none refused behind =
     }
 
 pub length-joined : (file : List ℕ) → Sized file (block-count file) → length (joined file) ≡ payload-size * block-count file
-unfolding joined block-size
-length-joined file z = length-payloads file 0 (block-count file) (omega (arith, z .whole))
+unfolding joined
+length-joined file z = length-payloads file (block-count file) (z .whole)
 
 -- the joined stream stands at the front
 pub joined-front : (file start work : List ℕ) → Sized file (block-count file) → work ≡ over (payloads file 0 (block-count file)) start
