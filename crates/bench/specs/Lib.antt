@@ -1,0 +1,2 @@
+-- How the exported calls give their number and length.
+pub mod Packed
