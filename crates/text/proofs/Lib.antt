@@ -1,0 +1,3 @@
+-- Laws of laying bytes, and of the functions that lay them.
+pub mod Laid
+pub mod Digits
