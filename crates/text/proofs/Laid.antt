@@ -96,6 +96,16 @@ wrote-then {before} {middle} {after} {a} {b} {at} {place} {next} room v w =
 pub wrote-as : {before after a b : List ℕ} {at next : ℕ} → a ≡ b → Wrote before after at next a → Wrote before after at next b
 wrote-as {before} {after} {a} {b} {at} {next} e w = subst (Wrote before after at next) e w
 
+-- the same of a text that is known to be both
+pub wrote-both : {before middle after a b whole : List ℕ} {at place next : ℕ} → a ++ b ≡ whole → at + length whole ≤ length before → Wrote before middle at place a → Wrote middle after place next b → Wrote before after at next whole
+wrote-both {before} {middle} {after} {a} {b} {whole} {at} {place} {next} e room v w =
+    wrote-as e (wrote-then (subst (λ (l : List ℕ). at + length l ≤ length before) (sym e) room) v w)
+
+-- and of three
+pub wrote-three : {before first second after a b c whole : List ℕ} {at place further next : ℕ} → a ++ b ++ c ≡ whole → at + length whole ≤ length before → Wrote before first at place a → Wrote first second place further b → Wrote second after further next c → Wrote before after at next whole
+wrote-three {before} {first} {second} {after} {a} {b} {c} {whole} {at} e room u v w =
+    wrote-both e room (wrote-then {at = at} (omega (arith, ap length e, length-append (a ++ b) c)) u v) w
+
 -- a copy of a list: none of it
 pub wrote-uncopied : (out s : List ℕ) (at : ℕ) → Wrote out out at (at + 0) (take 0 s)
 wrote-uncopied out s at = subst (λ (n : ℕ). Wrote out out at n []) (sym (add-zero at)) (wrote-nothing out at)

@@ -1,0 +1,2 @@
+-- What the code of a line is told of an operation.
+pub mod Told

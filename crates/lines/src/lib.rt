@@ -1,0 +1,166 @@
+// The lines of a report, each laid at a place of lent memory.
+use job::Kind;
+use machine::Operation;
+use machine::Step;
+use text::put_bytes;
+use text::put_decimal;
+use text::put_labelled;
+ghost use mathlib.Core.Path.{_≡_};
+ghost use mathlib.Core.List.{_++_};
+ghost use Prim.Native.Nat.{_+_, _≤_, _<_};
+ghost use lib.ListN.{length};
+ghost use Rattle.basics.specs.Text.{decimal};
+ghost use Rattle.basics.specs.Words.{word};
+ghost use Rattle.text.specs.Laid.{Wrote};
+ghost use Rattle.job.specs.Stream.{record-at};
+ghost use Rattle.job.specs.Job.{job-of};
+ghost use Rattle.machine.specs.Journal.{Answer};
+ghost use Rattle.machine.specs.Report.{centimetres, object-line, action-text, answer-text, progress-text, operation-line};
+ghost use Rattle.lines.specs.Told.{said, Told, front-text};
+
+// Where the record of an operation stands in a stream.
+fn record_at(o: Operation) -> usize
+    ensures { λ r. ⌜ r ≡ record-at (o .0) ⌝ }
+{
+    2 + 4 * (o.0 as usize)
+}
+
+// The process that does an operation.
+fn owner(stream: &[u8], o: Operation) -> u16
+    requires { ⌜ record-at (o .0) + 3 < length (now stream) ⌝ }
+    ensures { λ r. ⌜ r ≡ job-of (now (stream .entry)) .owner (o .0) ⌝ }
+{
+    let place = record_at(o);
+    stream[place] as u16
+}
+
+// Is an operation a put?
+fn is_put(stream: &[u8], o: Operation) -> bool
+    requires { ⌜ record-at (o .0) + 3 < length (now stream) ⌝ }
+    ensures { λ r. ⌜ r ≡ job-of (now (stream .entry)) .is-put (o .0) ⌝ }
+{
+    let place = record_at(o);
+    stream[place + 1] == 1
+}
+
+// The value of a put, in mm.
+fn millimetres(stream: &[u8], o: Operation) -> u16
+    requires { ⌜ record-at (o .0) + 3 < length (now stream) ⌝ }
+    ensures { λ r. ⌜ r ≡ job-of (now (stream .entry)) .millimetres (o .0) ⌝ }
+{
+    let place = record_at(o);
+    256 * (stream[place + 2] as u16) + stream[place + 3] as u16
+}
+
+// Whole centimetres, half a centimetre upward.
+fn centimetres(mm: u16) -> u16
+    ensures { λ r. ⌜ r ≡ centimetres mm ⌝ }
+{
+    ((mm as u32 + 5) / 10) as u16
+}
+
+// The object of a stream.
+pub fn object_line(out: &mut [u8], at: usize, kind: Kind) -> usize
+    requires { ⌜ at + length (object-line kind) ≤ length (now out) ⌝ }
+    ensures { λ r. ⌜ Wrote (now (out .entry)) (now (out .exit)) at r (object-line kind) ⌝ }
+{
+    match kind {
+        Kind::Queue => put_bytes(out, at, b"object queue\n"),
+        Kind::Stack => put_bytes(out, at, b"object stack\n"),
+    }
+}
+
+// `put` with its value, or `take`.
+fn put_action(out: &mut [u8], at: usize, stream: &[u8], o: Operation) -> usize
+    requires { ⌜ (record-at (o .0) + 3 < length (now stream)) × (at + length (action-text (job-of (now stream)) (o .0)) ≤ length (now out)) ⌝ }
+    ensures { λ r. ⌜ Wrote (now (out .entry)) (now (out .exit)) at r (action-text (job-of (now (stream .entry))) (o .0)) ⌝ }
+{
+    if is_put(stream, o) {
+        return put_labelled(out, at, b" put ", centimetres(millimetres(stream, o)));
+    }
+    put_bytes(out, at, b" take")
+}
+
+// `item` with its number and its value.
+fn put_item(out: &mut [u8], at: usize, stream: &[u8], item: Operation) -> usize
+    requires { ⌜ (record-at (item .0) + 3 < length (now stream)) × (at + length (answer-text (job-of (now stream)) (Answer.item (item .0))) ≤ length (now out)) ⌝ }
+    ensures { λ r. ⌜ Wrote (now (out .entry)) (now (out .exit)) at r (answer-text (job-of (now (stream .entry))) (Answer.item (item .0))) ⌝ }
+{
+    let next = put_labelled(out, at, b" item ", item.0);
+    put_labelled(
+        out,
+        next,
+        b" value ",
+        centimetres(millimetres(stream, item)),
+    )
+}
+
+// The answer of an ended operation, by the item that it took.
+fn put_answer(out: &mut [u8], at: usize, stream: &[u8], o: Operation, item: Operation) -> usize
+    requires { ⌜ (record-at (o .0) + 3 < length (now stream)) × (record-at (item .0) + 3 < length (now stream)) × (at + length (answer-text (job-of (now stream)) (said (job-of (now stream)) (o .0) (item .0))) ≤ length (now out)) ⌝ }
+    ensures { λ r. ⌜ Wrote (now (out .entry)) (now (out .exit)) at r (answer-text (job-of (now (stream .entry))) (said (job-of (now (stream .entry))) (o .0) (item .0))) ⌝ }
+{
+    if is_put(stream, o) {
+        return put_bytes(out, at, b" done");
+    }
+    if item.0 == 0 {
+        return put_bytes(out, at, b" empty");
+    }
+    put_item(out, at, stream, item)
+}
+
+// How far an operation has come.
+fn put_progress(
+    out: &mut [u8],
+    at: usize,
+    stream: &[u8],
+    o: Operation,
+    first: Step,
+    last: Step,
+    item: Operation,
+) -> usize
+    requires { ⌜ (record-at (o .0) + 3 < length (now stream)) × (record-at (item .0) + 3 < length (now stream)) ⌝ }
+    requires { ⌜ Told (job-of (now stream)) (job-of (now stream) .steps) (o .0) (first .0) (last .0) (item .0) ⌝ }
+    requires { ⌜ at + length (progress-text (job-of (now stream)) (job-of (now stream) .steps) (o .0)) ≤ length (now out) ⌝ }
+    ensures { λ r. ⌜ Wrote (now (out .entry)) (now (out .exit)) at r (progress-text (job-of (now (stream .entry))) (job-of (now (stream .entry)) .steps) (o .0)) ⌝ }
+{
+    if first.0 == 0 {
+        return put_bytes(out, at, b" first - last - waiting");
+    }
+    let next = put_labelled(out, at, b" first ", first.0);
+    if last.0 == 0 {
+        return put_bytes(out, next, b" last - open");
+    }
+    let next = put_labelled(out, next, b" last ", last.0);
+    put_answer(out, next, stream, o, item)
+}
+
+// The front of an operation's line: its number, its process and what it does.
+fn put_front(out: &mut [u8], at: usize, stream: &[u8], o: Operation) -> usize
+    requires { ⌜ (record-at (o .0) + 3 < length (now stream)) × (at + length (front-text (job-of (now stream)) (o .0)) ≤ length (now out)) ⌝ }
+    ensures { λ r. ⌜ Wrote (now (out .entry)) (now (out .exit)) at r (front-text (job-of (now (stream .entry))) (o .0)) ⌝ }
+{
+    let next = put_labelled(out, at, b"op ", o.0);
+    let next = put_labelled(out, next, b" process ", owner(stream, o));
+    put_action(out, next, stream, o)
+}
+
+// The line of an operation.
+pub fn operation_line(
+    out: &mut [u8],
+    at: usize,
+    stream: &[u8],
+    o: Operation,
+    first: Step,
+    last: Step,
+    item: Operation,
+) -> usize
+    requires { ⌜ (record-at (o .0) + 3 < length (now stream)) × (record-at (item .0) + 3 < length (now stream)) ⌝ }
+    requires { ⌜ Told (job-of (now stream)) (job-of (now stream) .steps) (o .0) (first .0) (last .0) (item .0) ⌝ }
+    requires { ⌜ at + length (operation-line (job-of (now stream)) (job-of (now stream) .steps) (o .0)) ≤ length (now out) ⌝ }
+    ensures { λ r. ⌜ Wrote (now (out .entry)) (now (out .exit)) at r (operation-line (job-of (now (stream .entry))) (job-of (now (stream .entry)) .steps) (o .0)) ⌝ }
+{
+    let next = put_front(out, at, stream, o);
+    let next = put_progress(out, next, stream, o, first, last, item);
+    put_bytes(out, next, b"\n")
+}
