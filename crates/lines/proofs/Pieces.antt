@@ -6,7 +6,7 @@ use mathlib.Core.Bool.{Bool, true, false}
 use mathlib.Core.List.{List, [], _∷_, _++_, append-assoc}
 use Rattle.basics.specs.Choice.{pick, same}
 use Rattle.basics.specs.Text.{text, decimal}
-use Rattle.basics.proofs.Choice.{pick-true, pick-false, equal-same, unequal-same}
+use Rattle.basics.proofs.Choice.{pick-then, pick-else, equal-same, unequal-same}
 use Rattle.job.specs.Job.{Job}
 use Rattle.machine.specs.Journal.{Answer}
 use Rattle.machine.specs.Journal
@@ -15,10 +15,10 @@ use Rattle.lines.specs.Told.{said, Told, front-text}
 
 -- a choice by a test whose answer is known
 pick-yes : {A : Type 0} {b t : Bool} (x y : A) → b ≡ t → b ≡ true → x ≡ pick t x y
-pick-yes x y e p = sym (ap (λ (u : Bool). pick u x y) (sym e ∙ p) ∙ pick-true x y)
+pick-yes x y e p = sym (pick-then x y (sym e ∙ p))
 
 pick-no : {A : Type 0} {b t : Bool} (x y : A) → b ≡ t → b ≡ false → y ≡ pick t x y
-pick-no x y e p = sym (ap (λ (u : Bool). pick u x y) (sym e ∙ p) ∙ pick-false x y)
+pick-no x y e p = sym (pick-else x y (sym e ∙ p))
 
 module _ (j : Job) (o : ℕ) {put : Bool} (e : put ≡ j .is-put o) where
   pub action-of-put : {mm cm : ℕ} → put ≡ true → mm ≡ j .millimetres o → cm ≡ centimetres mm → text " put " ++ decimal cm ≡ action-text j o
