@@ -13,23 +13,16 @@ use Rattle.machine.specs.Journal
 use Rattle.machine.specs.Report.{centimetres, action-text, answer-text, progress-text, operation-line}
 use Rattle.lines.specs.Told.{said, Told, front-text}
 
--- a choice by a test whose answer is known
-pick-yes : {A : Type 0} {b t : Bool} (x y : A) → b ≡ t → b ≡ true → x ≡ pick t x y
-pick-yes x y e p = sym (pick-then x y (sym e ∙ p))
-
-pick-no : {A : Type 0} {b t : Bool} (x y : A) → b ≡ t → b ≡ false → y ≡ pick t x y
-pick-no x y e p = sym (pick-else x y (sym e ∙ p))
-
 module _ (j : Job) (o : ℕ) {put : Bool} (e : put ≡ j .is-put o) where
   pub action-of-put : {mm cm : ℕ} → put ≡ true → mm ≡ j .millimetres o → cm ≡ centimetres mm → text " put " ++ decimal cm ≡ action-text j o
   unfolding action-text
   action-of-put {mm} {cm} p m f =
       ap (λ (n : ℕ). text " put " ++ decimal n) (f ∙ ap centimetres m)
-      ∙ pick-yes (text " put " ++ decimal (centimetres (j .millimetres o))) (text " take") e p
+      ∙ sym (pick-then (text " put " ++ decimal (centimetres (j .millimetres o))) (text " take") (sym e ∙ p))
 
   pub action-of-take : put ≡ false → text " take" ≡ action-text j o
   unfolding action-text
-  action-of-take p = pick-no (text " put " ++ decimal (centimetres (j .millimetres o))) (text " take") e p
+  action-of-take p = sym (pick-else (text " put " ++ decimal (centimetres (j .millimetres o))) (text " take") (sym e ∙ p))
 
 module _ (j : Job) where
   pub item-and-value : (n : ℕ) {mm cm : ℕ} → mm ≡ j .millimetres n → cm ≡ centimetres mm → text " item " ++ decimal n ++ (text " value " ++ decimal cm) ≡ answer-text j (Answer.item n)
@@ -38,23 +31,21 @@ module _ (j : Job) where
       ap (λ (c : ℕ). text " item " ++ decimal n ++ (text " value " ++ decimal c)) (f ∙ ap centimetres m)
       ∙ sym (append-assoc (text " item " ++ decimal n) (text " value ") (decimal (centimetres (j .millimetres n))))
 
-  module _ (o item : ℕ) {put : Bool} (e : put ≡ j .is-put o) where
-    pub answer-of-put : put ≡ true → text " done" ≡ answer-text j (said j o item)
+  module _ (link item : ℕ) where
+    pub answer-of-link : link ≢ 0 → text " done" ≡ answer-text j (said link item)
     unfolding said answer-text
-    answer-of-put p = ap (answer-text j) (pick-yes Answer.done (pick (same item 0) Answer.empty (Answer.item item)) e p)
+    answer-of-link z = ap (answer-text j) (sym (pick-else _ Answer.done (unequal-same z)))
 
-    said-of-take : put ≡ false → pick (same item 0) Answer.empty (Answer.item item) ≡ said j o item
+    said-of-take : link ≡ 0 → pick (same item 0) Answer.empty (Answer.item item) ≡ said link item
     unfolding said
-    said-of-take p = pick-no Answer.done (pick (same item 0) Answer.empty (Answer.item item)) e p
+    said-of-take z = sym (pick-then _ Answer.done (equal-same z))
 
-    pub answer-of-empty : put ≡ false → item ≡ 0 → text " empty" ≡ answer-text j (said j o item)
+    pub answer-of-empty : link ≡ 0 → item ≡ 0 → text " empty" ≡ answer-text j (said link item)
     unfolding answer-text
-    answer-of-empty p z =
-        ap (answer-text j) (pick-yes Answer.empty (Answer.item item) refl (equal-same z) ∙ said-of-take p)
+    answer-of-empty l z = ap (answer-text j) (sym (pick-then Answer.empty (Answer.item item) (equal-same z)) ∙ said-of-take l)
 
-    pub answer-of-item : put ≡ false → item ≢ 0 → answer-text j (Answer.item item) ≡ answer-text j (said j o item)
-    answer-of-item p z =
-        ap (answer-text j) (pick-no Answer.empty (Answer.item item) refl (unequal-same z) ∙ said-of-take p)
+    pub answer-of-item : link ≡ 0 → item ≢ 0 → answer-text j (Answer.item item) ≡ answer-text j (said link item)
+    answer-of-item l z = ap (answer-text j) (sym (pick-else Answer.empty (Answer.item item) (unequal-same z)) ∙ said-of-take l)
 
 -- what follows `last`, and the whole progress, by the steps and the answer
 abbrev pub ending : Job → ℕ → Answer → List ℕ
@@ -64,32 +55,32 @@ abbrev progress : Job → ℕ → ℕ → Answer → List ℕ
 progress j first last a =
     pick (same first 0) (text " first - last - waiting") (text " first " ++ decimal first ++ text " last " ++ ending j last a)
 
-module _ (j : Job) {k o first last item : ℕ} (t : Told j k o first last item) where
+module _ (j : Job) {k o first last link item : ℕ} (t : Told j k o first last link item) where
   as-told : progress j first last (Journal.answer j k o) ≡ progress-text j k o
   unfolding progress-text
   as-told = ap₂ (λ (f l : ℕ). progress j f l (Journal.answer j k o)) (t .begins) (t .ends)
 
   pub not-begun : first ≡ 0 → text " first - last - waiting" ≡ progress-text j k o
-  not-begun z = pick-yes _ _ refl (equal-same z) ∙ as-told
+  not-begun z = sym (pick-then _ _ (equal-same z)) ∙ as-told
 
   pub begun : first ≢ 0 → text " first " ++ decimal first ++ (text " last " ++ ending j last (Journal.answer j k o)) ≡ progress-text j k o
   begun z =
       sym (append-assoc (text " first " ++ decimal first) (text " last ") (ending j last (Journal.answer j k o)))
-      ∙ pick-no (text " first - last - waiting") _ refl (unequal-same z)
+      ∙ sym (pick-else (text " first - last - waiting") _ (unequal-same z))
       ∙ as-told
 
   pub not-ended : first ≢ 0 → last ≡ 0 → text " first " ++ decimal first ++ text " last - open" ≡ progress-text j k o
   unfolding text
   not-ended z e =
-      ap (λ (l : List ℕ). text " first " ++ decimal first ++ (text " last " ++ l)) (pick-yes (text "- open") _ refl (equal-same e))
+      ap (λ (l : List ℕ). text " first " ++ decimal first ++ (text " last " ++ l)) (sym (pick-then (text "- open") _ (equal-same e)))
       ∙ begun z
 
-  pub has-ended : first ≢ 0 → last ≢ 0 → text " first " ++ decimal first ++ (text " last " ++ decimal last) ++ answer-text j (said j o item) ≡ progress-text j k o
+  pub has-ended : first ≢ 0 → last ≢ 0 → text " first " ++ decimal first ++ (text " last " ++ decimal last) ++ answer-text j (said link item) ≡ progress-text j k o
   has-ended z e =
-      append-assoc (text " first " ++ decimal first) (text " last " ++ decimal last) (answer-text j (said j o item))
-      ∙ ap (λ (l : List ℕ). text " first " ++ decimal first ++ l) (append-assoc (text " last ") (decimal last) (answer-text j (said j o item)))
+      append-assoc (text " first " ++ decimal first) (text " last " ++ decimal last) (answer-text j (said link item))
+      ∙ ap (λ (l : List ℕ). text " first " ++ decimal first ++ l) (append-assoc (text " last ") (decimal last) (answer-text j (said link item)))
       ∙ ap (λ (a : Answer). text " first " ++ decimal first ++ (text " last " ++ (decimal last ++ answer-text j a))) (sym (t .answers e))
-      ∙ ap (λ (l : List ℕ). text " first " ++ decimal first ++ (text " last " ++ l)) (pick-no (text "- open") _ refl (unequal-same e))
+      ∙ ap (λ (l : List ℕ). text " first " ++ decimal first ++ (text " last " ++ l)) (sym (pick-else (text "- open") _ (unequal-same e)))
       ∙ begun z
 
 pub front-pieces : (j : Job) (o : ℕ) {process : ℕ} → process ≡ j .owner o → text "op " ++ decimal o ++ (text " process " ++ decimal process) ++ action-text j o ≡ front-text j o

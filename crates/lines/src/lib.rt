@@ -97,12 +97,12 @@ fn put_item(out: &mut [u8], at: usize, stream: &[u8], item: Operation) -> usize
     )
 }
 
-// The answer of an ended operation, by the item that it took.
-fn put_answer(out: &mut [u8], at: usize, stream: &[u8], o: Operation, item: Operation) -> usize
-    requires { ⌜ (record-at (o .0) + 3 < length (now stream)) × (record-at (item .0) + 3 < length (now stream)) × (at + length (answer-text (job-of (now stream)) (said (job-of (now stream)) (o .0) (item .0))) ≤ length (now out)) ⌝ }
-    ensures { λ r. ⌜ Wrote (now (out .entry)) (now (out .exit)) at r (answer-text (job-of (now (stream .entry))) (said (job-of (now (stream .entry))) (o .0) (item .0))) ⌝ }
+// The answer of an ended operation, by the step at which it linked and the item that it took.
+fn put_answer(out: &mut [u8], at: usize, stream: &[u8], link: Step, item: Operation) -> usize
+    requires { ⌜ (record-at (item .0) + 3 < length (now stream)) × (at + length (answer-text (job-of (now stream)) (said (link .0) (item .0))) ≤ length (now out)) ⌝ }
+    ensures { λ r. ⌜ Wrote (now (out .entry)) (now (out .exit)) at r (answer-text (job-of (now (stream .entry))) (said (link .0) (item .0))) ⌝ }
 {
-    if is_put(stream, o) {
+    if link.0 != 0 {
         return put_bytes(out, at, b" done");
     }
     if item.0 == 0 {
@@ -119,10 +119,11 @@ fn put_progress(
     o: Operation,
     first: Step,
     last: Step,
+    link: Step,
     item: Operation,
 ) -> usize
-    requires { ⌜ (record-at (o .0) + 3 < length (now stream)) × (record-at (item .0) + 3 < length (now stream)) ⌝ }
-    requires { ⌜ Told (job-of (now stream)) (job-of (now stream) .steps) (o .0) (first .0) (last .0) (item .0) ⌝ }
+    requires { ⌜ record-at (item .0) + 3 < length (now stream) ⌝ }
+    requires { ⌜ Told (job-of (now stream)) (job-of (now stream) .steps) (o .0) (first .0) (last .0) (link .0) (item .0) ⌝ }
     requires { ⌜ at + length (progress-text (job-of (now stream)) (job-of (now stream) .steps) (o .0)) ≤ length (now out) ⌝ }
     ensures { λ r. ⌜ Wrote (now (out .entry)) (now (out .exit)) at r (progress-text (job-of (now (stream .entry))) (job-of (now (stream .entry)) .steps) (o .0)) ⌝ }
 {
@@ -134,7 +135,7 @@ fn put_progress(
         return put_bytes(out, next, b" last - open");
     }
     let next = put_labelled(out, next, b" last ", last.0);
-    put_answer(out, next, stream, o, item)
+    put_answer(out, next, stream, link, item)
 }
 
 // The front of an operation's line: its number, its process and what it does.
@@ -155,15 +156,16 @@ pub fn operation_line(
     o: Operation,
     first: Step,
     last: Step,
+    link: Step,
     item: Operation,
 ) -> usize
     requires { ⌜ (record-at (o .0) + 3 < length (now stream)) × (record-at (item .0) + 3 < length (now stream)) ⌝ }
-    requires { ⌜ Told (job-of (now stream)) (job-of (now stream) .steps) (o .0) (first .0) (last .0) (item .0) ⌝ }
+    requires { ⌜ Told (job-of (now stream)) (job-of (now stream) .steps) (o .0) (first .0) (last .0) (link .0) (item .0) ⌝ }
     requires { ⌜ at + length (operation-line (job-of (now stream)) (job-of (now stream) .steps) (o .0)) ≤ length (now out) ⌝ }
     ensures { λ r. ⌜ Wrote (now (out .entry)) (now (out .exit)) at r (operation-line (job-of (now (stream .entry))) (job-of (now (stream .entry)) .steps) (o .0)) ⌝ }
 {
     let next = put_front(out, at, stream, o);
-    let next = put_progress(out, next, stream, o, first, last, item);
+    let next = put_progress(out, next, stream, o, first, last, link, item);
     put_bytes(out, next, b"\n")
 }
 

@@ -75,7 +75,7 @@ unfolding text
 put-answer-requires c κs =
     let start = c .before .before .before .before .before .before .before .before .before .before .before .before .before .before .before .before .before in
     let same = has-ended (job-of (start .args .stream .now)) (start .pre .1 .0) (c .before .before .before .before .before .before .before .before .before .before .before .before .before .if1 .left) (c .before .before .before .before .before .before .if2 .left) in
-    (start .pre .0 .0, start .pre .0 .1, omega (arith, simp length-append at (ap length same)))
+    (start .pre .0, omega (arith, simp length-append at (ap length same)))
 
 same-length-3 : tie.Need-same-length-3
 same-length-3 c = search needs
