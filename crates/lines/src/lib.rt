@@ -11,6 +11,7 @@ ghost use Prim.Native.Nat.{_+_, _≤_, _<_};
 ghost use lib.ListN.{length};
 ghost use Rattle.basics.specs.Text.{text, decimal};
 ghost use Rattle.basics.specs.Maps as Maps;
+ghost use Rattle.basics.specs.Words.{word};
 ghost use Rattle.text.specs.Laid.{Wrote};
 ghost use Rattle.job.specs.Stream.{record-at};
 ghost use Rattle.job.specs.Job.{job-of};
@@ -45,13 +46,21 @@ fn is_put(stream: &[u8], o: Operation) -> bool
     stream[place + 1] == 1
 }
 
+// The number in the two bytes at an index.
+pub fn word_at(s: &[u8], i: usize) -> u16
+    requires { ⌜ i + 1 < length (now s) ⌝ }
+    ensures { λ r. ⌜ r ≡ word (now (s .entry)) i ⌝ }
+{
+    256 * (s[i] as u16) + s[i + 1] as u16
+}
+
 // The value of a put, in mm.
 fn millimetres(stream: &[u8], o: Operation) -> u16
     requires { ⌜ record-at (o .0) + 3 < length (now stream) ⌝ }
     ensures { λ r. ⌜ r ≡ job-of (now (stream .entry)) .millimetres (o .0) ⌝ }
 {
     let place = record_at(o);
-    256 * (stream[place + 2] as u16) + stream[place + 3] as u16
+    word_at(stream, place + 2)
 }
 
 // Whole centimetres, half a centimetre upward.

@@ -1,0 +1,4 @@
+-- What every run is known to do, as far as its report needs it, and the texts that the arrays give.
+pub mod Facts
+pub mod Steps
+pub mod Left

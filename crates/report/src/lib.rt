@@ -1,0 +1,82 @@
+// The report of a finished run, from the arrays that it leaves.
+use job::Kind;
+use lines::empty_line;
+use lines::left_line;
+use lines::object_line;
+use lines::operation_line;
+use lines::put_line;
+use lines::take_line;
+use lines::word_at;
+use machine::Operation;
+use machine::Step;
+ghost use mathlib.Core.Path.{_≡_};
+ghost use Prim.Native.Nat.{_+_, _≤_, _<_};
+ghost use lib.ListN.{length};
+ghost use Rattle.basics.specs.Maps as Maps;
+ghost use Rattle.text.specs.Laid.{laid, Wrote};
+ghost use Rattle.job.specs.Stream.{stream-length};
+ghost use Rattle.job.specs.Job.{job-of};
+ghost use Rattle.machine.specs.Run.{state-after};
+ghost use Rattle.machine.specs.Journal.{note};
+ghost use Rattle.machine.specs.Record.{line-at, lines-to, the-record};
+ghost use Rattle.machine.specs.Left.{left};
+ghost use Rattle.machine.specs.Explained as Explained;
+ghost use Rattle.machine.specs.Report.{operation-line, operation-lines, record-lines, left-line, report};
+ghost use Rattle.report.specs.Holds.{Holds, HoldsAnswers, HoldsEffects, Remembers, first-node};
+
+// The object of a job.
+fn object_of(stream: &[u8]) -> Kind
+    requires { ⌜ stream-length (now stream) ≤ length (now stream) ⌝ }
+    ensures { λ r. ⌜ r ≡ job-of (now (stream .entry)) .object ⌝ }
+{
+    if stream[0] == 1 {
+        Kind::Queue
+    } else {
+        Kind::Stack
+    }
+}
+
+// The number of a job's operations.
+fn count_of(stream: &[u8]) -> u16
+    requires { ⌜ stream-length (now stream) ≤ length (now stream) ⌝ }
+    ensures { λ r. ⌜ r ≡ job-of (now (stream .entry)) .count ⌝ }
+{
+    word_at(stream, 2)
+}
+
+// The number of a job's steps.
+fn steps_of(stream: &[u8]) -> u16
+    requires { ⌜ stream-length (now stream) ≤ length (now stream) ⌝ }
+    ensures { λ r. ⌜ r ≡ job-of (now (stream .entry)) .steps ⌝ }
+{
+    word_at(stream, 4)
+}
+
+// The line of an operation, by the arrays.
+fn line_of(
+    out: &mut [u8],
+    at: usize,
+    stream: &[u8],
+    first: &[u16],
+    last: &[u16],
+    link: &[u16],
+    taken: &[u16],
+    o: Operation,
+) -> usize
+    requires { ⌜ (stream-length (now stream) ≤ length (now stream)) × Explained.Operation (job-of (now stream)) (o .0) ⌝ }
+    requires { ⌜ HoldsAnswers (job-of (now stream)) (job-of (now stream) .steps) (now first) (now last) (now link) (now taken) ⌝ }
+    requires { ⌜ at + length (operation-line (job-of (now stream)) (job-of (now stream) .steps) (o .0)) ≤ length (now out) ⌝ }
+    ensures { λ r. ⌜ Wrote (now (out .entry)) (now (out .exit)) at r (operation-line (job-of (now (stream .entry))) (job-of (now (stream .entry)) .steps) (o .0)) ⌝ }
+{
+    let i = o.0 as usize;
+    operation_line(
+        out,
+        at,
+        stream,
+        o,
+        Step(first[i]),
+        Step(last[i]),
+        Step(link[i]),
+        Operation(taken[i]),
+    )
+}
