@@ -1,4 +1,5 @@
 -- What every run is known to do, as far as its report needs it, and the texts that the arrays give.
 pub mod Facts
+pub mod Operations
 pub mod Steps
 pub mod Left

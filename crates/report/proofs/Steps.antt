@@ -80,8 +80,10 @@ module _ {j : Job} {k : ℕ} {last start link taken stood : List ℕ} (h : Holds
       ∙ ap (λ (n : ℕ). stands n (takes (at taken o) (takers j k (at taken o)))) (sym (h .lines .reads (at taken o) (item .from-one) (item .to-count)))
       ∙ ap (λ (l : List ℕ). stands (at stood (at taken o)) (takes (at taken o) l)) (sym (takers-held j k (h .items) (at taken o)))
 
-  pub take-here : at taken o ≢ 0 → at stood (at taken o) ≡ s → record-line (record { step = s; line = takes (at taken o) (takers-of (at taken) (j .count) (at taken o)) }) ≡ record-lines (line-at j k s)
-  take-here t e = text-here j k s o made (took t) e
+  pub take-here : {count : ℕ} → count ≡ j .count → at taken o ≢ 0 → at stood (at taken o) ≡ s → record-line (record { step = s; line = takes (at taken o) (takers-of (at taken) count (at taken o)) }) ≡ record-lines (line-at j k s)
+  take-here all t e =
+      ap (λ (n : ℕ). record-line (record { step = s; line = takes (at taken o) (takers-of (at taken) n (at taken o)) })) all
+      ∙ text-here j k s o made (took t) e
 
   pub take-elsewhere : at taken o ≢ 0 → at stood (at taken o) ≢ s → record-lines (line-at j k s) ≡ []
   take-elsewhere t e = text-elsewhere j k s o made (took t) e

@@ -80,3 +80,71 @@ fn line_of(
         Operation(taken[i]),
     )
 }
+
+// The lines of operations, in number order.
+fn operation_lines(
+    out: &mut [u8],
+    at: usize,
+    stream: &[u8],
+    first: &[u16],
+    last: &[u16],
+    link: &[u16],
+    taken: &[u16],
+    count: u16,
+) -> usize
+    requires { ⌜ (stream-length (now stream) ≤ length (now stream)) × (count ≡ job-of (now stream) .count) ⌝ }
+    requires { ⌜ HoldsAnswers (job-of (now stream)) (job-of (now stream) .steps) (now first) (now last) (now link) (now taken) ⌝ }
+    requires { ⌜ at + length (operation-lines (job-of (now stream)) (job-of (now stream) .steps) count) ≤ length (now out) ⌝ }
+    ensures { λ r. ⌜ Wrote (now (out .entry)) (now (out .exit)) at r (operation-lines (job-of (now (stream .entry))) (job-of (now (stream .entry)) .steps) count) ⌝ }
+{
+    let mut place = at;
+    let mut o: u16 = 0;
+    while o < count {
+        o += 1;
+        place = line_of(out, place, stream, first, last, link, taken, Operation(o));
+    }
+    place
+}
+
+// The line of a step, if there is one: the effect of the operation that made it, by the arrays.
+fn step_line(
+    out: &mut [u8],
+    at: usize,
+    stream: &[u8],
+    last: &[u16],
+    start: &[u16],
+    link: &[u16],
+    taken: &[u16],
+    stands: &[u16],
+    count: u16,
+    s: Step,
+    o: Operation,
+) -> usize
+    requires { ⌜ (count ≡ job-of (now stream) .count) × Explained.Operation (job-of (now stream)) (o .0) × (note (job-of (now stream)) (s .0) .by ≡ o .0) ⌝ }
+    requires { ⌜ HoldsEffects (job-of (now stream)) (job-of (now stream) .steps) (now last) (now start) (now link) (now taken) (now stands) ⌝ }
+    requires { ⌜ at + length (record-lines (line-at (job-of (now stream)) (job-of (now stream) .steps) (s .0))) ≤ length (now out) ⌝ }
+    ensures { λ r. ⌜ Wrote (now (out .entry)) (now (out .exit)) at r (record-lines (line-at (job-of (now (stream .entry))) (job-of (now (stream .entry)) .steps) (s .0))) ⌝ }
+{
+    let i = o.0 as usize;
+    let linked = link[i];
+    if linked != 0 {
+        if linked != s.0 {
+            return at;
+        }
+        return put_line(out, at, s, o);
+    }
+    let item = taken[i];
+    if item != 0 {
+        if stands[item as usize] != s.0 {
+            return at;
+        }
+        return take_line(out, at, s, taken, count, Operation(item));
+    }
+    if last[i] == 0 {
+        return at;
+    }
+    if start[i] != s.0 {
+        return at;
+    }
+    empty_line(out, at, s, o)
+}
