@@ -1,19 +1,22 @@
 -- What is left, as the arrays of shared memory say it, is what the definition says. Assumes nothing.
-use mathlib.Core.Path.{_≡_, refl, sym, ap, subst, _∙_}
+use mathlib.Core.Path.{_≡_, refl, sym, ap, ap₂, subst, _∙_}
 use mathlib.Core.Logic.{_⊎_, inl, inr}
-use Prim.Native.Nat.{ℕ, zero, suc, _≤_}
+use Prim.Native.Nat.{ℕ, zero, suc, _≤_, _<_}
 use native.Mathlib.Omega.{arith}
 use mathlib.Core.List.{List, [], _∷_, List·Memᴰ, List·Memᴰ·not-nil, List·Memᴰ·cases-cons}
+use lib.ListN.{length}
 use Rattle.basics.specs.Choice.{pick, same}
 use Rattle.basics.specs.Maps.{at}
 use Rattle.basics.proofs.Choice.{pick-elim}
 use Rattle.job.specs.declared.Kind.{Kind}
 use Rattle.job.specs.declared.Kind.the-variants.{Queue, Stack}
+use Rattle.job.specs.Job.{Job}
 use Rattle.machine.specs.Memory.{Memory}
+use Rattle.machine.specs.Run.{state-after}
 use Rattle.machine.specs.Effects.{sift}
-use Rattle.machine.specs.Left.{walk, left-in}
+use Rattle.machine.specs.Left.{walk, left-in, left}
 use Rattle.machine.proofs.Lists.{sift-agrees, sift-all}
-use Rattle.machine.proofs.Bounds.{MemoryWithin}
+use Rattle.machine.proofs.Bounds.{MemoryWithin, within}
 use Rattle.lines.specs.Members.{stays, left-from, Nodes}
 use Rattle.report.specs.Holds.{Column, Remembers, first-node}
 
@@ -83,3 +86,21 @@ module _ (object : Kind) {n : ℕ} {m : Memory} {next mark : List ℕ} {head top
       ∙ ap (sift (stays object (at mark))) (walk-agrees (at next) (m .next) n nexts (w .next) first n low)
       ∙ sift-agrees (stays object (at mark)) (stays object (m .mark)) (walk (m .next) first n) (λ x p. stays-agrees object (at mark) (m .mark) x (r .marks .reads x (omega arith) (walk-within (at next) (m .next) n nexts (w .next) first n low x p)))
       ∙ left-tested object n m
+
+-- the same of a job after k steps, from a node, an object and a count that are known to be its
+module _ (j : Job) (k : ℕ) {object : Kind} {count node head top : ℕ} {next mark : List ℕ} (of : object ≡ j .object) (all : count ≡ j .count) (r : Remembers count (state-after j k .memory) next mark head top) (from : node ≡ first-node object (at next) head top) where
+  memory-within : MemoryWithin count (state-after j k .memory)
+  memory-within = subst (λ (n : ℕ). MemoryWithin n (state-after j k .memory)) (sym all) (within j k .memory)
+
+  pub head-within : head < length next
+  head-within = omega (arith, memory-within .head, r .heads, r .nexts .long)
+
+  pub nodes-of-job : Nodes next mark count node
+  nodes-of-job = subst (Nodes next mark count) (sym from) (nodes-held object memory-within r)
+
+  pub left-of-job : left-from object (at next) (at mark) node count ≡ left j k
+  unfolding left
+  left-of-job =
+      ap (λ (i : ℕ). left-from object (at next) (at mark) i count) from
+      ∙ left-held object memory-within r
+      ∙ ap₂ (λ (o : Kind) (n : ℕ). left-in o n (state-after j k .memory)) of all

@@ -3,3 +3,4 @@ pub mod Facts
 pub mod Operations
 pub mod Steps
 pub mod Left
+pub mod Whole

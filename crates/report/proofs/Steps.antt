@@ -1,9 +1,9 @@
 -- The line at a step, by the arrays that hold the deeds of the operation that made it. Assumes nothing.
 use mathlib.Core.Path.{_≡_, refl, sym, ap, subst, _∙_}
 use mathlib.Core.Logic.{_≢_}
-use Prim.Native.Nat.{ℕ, _≤_}
+use Prim.Native.Nat.{ℕ, zero, suc, _≤_}
 use mathlib.Core.Bool.{Bool}
-use mathlib.Core.List.{List, [], _∷_, append-nil}
+use mathlib.Core.List.{List, [], _∷_, _++_, append-nil, append-assoc}
 use Rattle.basics.specs.Choice.{same}
 use Rattle.basics.specs.Maps.{at}
 use Rattle.basics.proofs.Choice.{pick-then, pick-else, equal-same, unequal-same}
@@ -14,14 +14,15 @@ use Rattle.machine.specs.Journal.{note}
 use Rattle.machine.specs.Journal
 use Rattle.machine.specs.Effects.{Effect, effect, takes-at, takers, numbers}
 use Rattle.machine.specs.Effects.Effect.{none, stands}
-use Rattle.machine.specs.Record.{Recorded, if-at, line-at}
+use Rattle.machine.specs.Record.{Recorded, if-at, line-at, lines-to}
 use Rattle.machine.specs.Explained.{Operation}
 use Rattle.machine.specs.Report.{record-line, record-lines}
 use Rattle.machine.proofs.Lists.{sift-agrees, numbers-out}
 use Rattle.machine.proofs.Lines.{effect-of-taker, effect-of-put, effect-of-empty}
+use Rattle.text.proofs.Each.{each-to}
 use Rattle.lines.specs.Members.{takers-of}
 use Rattle.report.specs.Holds.{Column, HoldsEffects}
-use Rattle.report.proofs.Facts.{item-operation, no-effect, ended-empty}
+use Rattle.report.proofs.Facts.{item-operation, no-effect, ended-empty, maker-operation, idle-line}
 
 -- the text of an effect's line, at its step and elsewhere
 module _ (j : Job) (k s o : ℕ) (made : note j s .by ≡ o) where
@@ -101,3 +102,32 @@ module _ {j : Job} {k : ℕ} {last start link taken stood : List ℕ} (h : Holds
 
     pub not-ended : at last o ≡ 0 → record-lines (line-at j k s) ≡ []
     not-ended z = text-nowhere j k s o made (no-effect j k o (sym the-link ∙ l) (sym the-item ∙ t) (sym the-last ∙ z))
+
+record-lines-append : (a b : List Recorded) → record-lines (a ++ b) ≡ record-lines a ++ record-lines b
+unfolding record-lines
+record-lines-append [] b = refl
+record-lines-append (r ∷ a) b =
+    ap (λ (l : List ℕ). record-line r ++ l) (record-lines-append a b) ∙ sym (append-assoc (record-line r) (record-lines a) (record-lines b))
+
+-- the text of the line at a step, if there is one
+abbrev pub step-text : Job → ℕ → ℕ → List ℕ
+step-text j k s = record-lines (line-at j k s)
+
+-- the record, step by step
+pub record-is-each : (j : Job) (k n : ℕ) → each-to (step-text j k) n ≡ record-lines (lines-to j k n)
+unfolding each-to lines-to record-lines
+record-is-each j k zero = refl
+record-is-each j k (suc n) =
+    ap (λ (l : List ℕ). l ++ step-text j k (suc n)) (record-is-each j k n) ∙ sym (record-lines-append (lines-to j k n) (line-at j k (suc n)))
+
+-- who made a step, by an array
+module _ (j : Job) {by : List ℕ} {n : ℕ} (h : Column 1 n by (λ s. note j s .by)) (s : ℕ) (low : 1 ≤ s) (high : s ≤ n) where
+  pub maker-held : note j s .by ≡ at by s
+  maker-held = sym (h .reads s low high)
+
+  pub maker-is-operation : at by s ≢ 0 → Operation j (at by s)
+  maker-is-operation some = subst (Operation j) maker-held (maker-operation j 0 s low (λ z. some (sym maker-held ∙ z)))
+
+  pub idle-text : (k : ℕ) → s ≤ k → at by s ≡ 0 → step-text j k s ≡ []
+  unfolding record-lines
+  idle-text k to-end z = ap record-lines (idle-line j k s low to-end (maker-held ∙ z))

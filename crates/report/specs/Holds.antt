@@ -10,6 +10,7 @@ use Rattle.job.specs.Job.{Job}
 use Rattle.machine.specs.Memory.{Memory}
 use Rattle.machine.specs.Journal
 use Rattle.machine.specs.Effects.{takes-at}
+use Rattle.text.specs.Laid.{laid}
 
 -- an array holds what a function gives for the numbers from `low` to `high`
 pub record Column (low high : ℕ) (l : List ℕ) (f : ℕ → ℕ) : Type 0 where
@@ -53,3 +54,8 @@ pub record Remembers (count : ℕ) (m : Memory) (next mark : List ℕ) (head top
 unfoldable pub first-node : Kind → (ℕ → ℕ) → ℕ → ℕ → ℕ
 first-node Queue next head top = next head
 first-node Stack next head top = top
+
+-- a text was written at the front of a memory: the bytes past it are as before, and its length is told
+pub record Reported (before after : List ℕ) (told : ℕ) (bytes : List ℕ) : Type 0 where
+  pub writes : after ≡ laid before 0 bytes
+  pub tells : told ≡ length bytes

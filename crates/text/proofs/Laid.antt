@@ -106,6 +106,11 @@ pub wrote-three : {before first second after a b c whole : List ℕ} {at place f
 wrote-three {before} {first} {second} {after} {a} {b} {c} {whole} {at} e room u v w =
     wrote-both e room (wrote-then {at = at} (omega (arith, ap length e, length-append (a ++ b) c)) u v) w
 
+-- and of four
+pub wrote-four : {before first second third after a b c d whole : List ℕ} {at place further more next : ℕ} → a ++ b ++ c ++ d ≡ whole → at + length whole ≤ length before → Wrote before first at place a → Wrote first second place further b → Wrote second third further more c → Wrote third after more next d → Wrote before after at next whole
+wrote-four {a} {b} {c} {d} {at} e room u v w x =
+    wrote-both e room (wrote-three {at = at} refl (omega (arith, ap length e, length-append (a ++ b ++ c) d)) u v w) x
+
 -- a copy of a list: none of it
 pub wrote-uncopied : (out s : List ℕ) (at : ℕ) → Wrote out out at (at + 0) (take 0 s)
 wrote-uncopied out s at = subst (λ (n : ℕ). Wrote out out at n []) (sym (add-zero at)) (wrote-nothing out at)
