@@ -2,11 +2,11 @@
 -- run. Assumes nothing.
 use mathlib.Core.Path.{_≡_, refl, sym, ap, subst, fun-ext, _∙_}
 use mathlib.Core.Logic.{_≢_, _⊎_, inl, inr}
-use Prim.Native.Nat.{ℕ, zero, suc, _+_, _-_, _*_, _≤_, _<_}
+use Prim.Native.Nat.{ℕ, zero, suc, _+_, _-_, _*_, _≤_, _<_, min}
 use native.Mathlib.Omega.{arith}
 use mathlib.Core.Bool.{Bool, true, false, not, true≢false}
 use mathlib.Core.List.{List, [], _∷_, _++_}
-use lib.ListN.{length, getD, take, replicate, List·getD-eq-default}
+use lib.ListN.{length, getD, take, replicate, length-take, List·getD-eq-default}
 use lib.Seq.{getD-take}
 use Rattle.basics.specs.Choice.{pick, same, less}
 use Rattle.basics.specs.Maps.{at}
@@ -15,23 +15,32 @@ use Rattle.basics.proofs.Choice.{split, compare, same-equal, less-lt, less-le}
 use Rattle.job.specs.declared.Kind.{Kind}
 use Rattle.job.specs.declared.Kind.the-variants.{Queue, Stack}
 use Rattle.job.specs.Stream.{kind, processes, operations, schedule-length, record-at, process, action, value, scheduled, stream-length}
-use Rattle.job.specs.Refusals.{any, outside, most-operations, most-processes, most-steps, bad-padding, bad-operations, bad-processes, bad-schedule-length, bad-schedule, bad-entry}
-use Rattle.job.specs.File.{most-stream, zeros, joined, stream-of, file-refusal}
+use Rattle.job.specs.Refusals.{exact-count, any, outside, most-operations, most-processes, most-steps, bad-padding, bad-operations, bad-processes, bad-schedule-length, bad-schedule, bad-entry}
+use Rattle.block.specs.Block.{payload-size}
+use Rattle.job.specs.File.{most-blocks, most-stream, zeros, joined, stream-of, file-refusal}
 use Rattle.job.specs.Job.{Job, job-of}
+use Rattle.run.specs.Promise.{Blank}
 use Rattle.job.proofs.Conditions.{or-both}
 use Rattle.job.proofs.Accepted.{Good-file, accepted-good}
+use Rattle.job.proofs.Padded.{fine-small}
+use Rattle.job.proofs.Table.{exact-room}
 use Rattle.replayer.specs.Ready.{Ready}
+
+-- a list of zeros is read as 0 everywhere
+zero-anywhere : (m i : ℕ) → _≡_ {A = ℕ} (getD (replicate m 0) i 0) 0
+zero-anywhere zero i = refl
+zero-anywhere (suc m) zero = refl
+zero-anywhere (suc m) (suc i) = zero-anywhere m i
+
+pub blank : (m : ℕ) → Blank (replicate m 0)
+unfolding at
+blank m i = zero-anywhere m i
 
 -- zeros behind a list are read as what is not there
 pub at-zeros : (l : List ℕ) (n : ℕ) → at (l ++ zeros n) ≡ at l
 unfolding at zeros
 at-zeros l n = fun-ext (λ i. go l i)
   where
-    zero-anywhere : (m i : ℕ) → _≡_ {A = ℕ} (getD (replicate m 0) i 0) 0
-    zero-anywhere zero i = refl
-    zero-anywhere (suc m) zero = refl
-    zero-anywhere (suc m) (suc i) = zero-anywhere m i
-
     go : (l : List ℕ) (i : ℕ) → getD (l ++ replicate n 0) i 0 ≡ getD l i 0
     go [] i = zero-anywhere n i
     go (x ∷ l) zero = refl
@@ -140,3 +149,12 @@ module _ (file : List ℕ) (accepted : file-refusal file ≡ 0) where
             subst (λ f. (k : ℕ) → 1 ≤ k → k ≤ 256 * f 4 + f 5 → f (5 + 4 * (256 * f 2 + f 3) + k) < most-processes) (sym e)
             joined-entry;
       }
+
+  -- the stream fits its part of the work memory
+  pub stream-fits : length (stream-of file) ≤ most-stream
+  unfolding stream-of payload-size most-stream most-blocks
+  stream-fits =
+      let fit : stream-length (joined file) ≤ 506 * exact-count (joined file) = exact-room (joined file) in
+      let few : exact-count (joined file) ≤ 35 = fine-small (joined file) (good .fine) in
+      let cut : length (take (stream-length (joined file)) (joined file)) ≡ min (stream-length (joined file)) (length (joined file)) = length-take (stream-length (joined file)) (joined file) in
+      omega arith

@@ -25,7 +25,7 @@ ghost use Rattle.machine.specs.Report.{operation-line, operation-lines, record-
 ghost use Rattle.report.specs.Holds.{Column, Holds, HoldsAnswers, HoldsEffects, Remembers, first-node, Reported};
 
 // The object of a job.
-fn object_of(stream: &[u8]) -> Kind
+pub fn object_of(stream: &[u8]) -> Kind
     requires { ⌜ stream-length (now stream) ≤ length (now stream) ⌝ }
     ensures { λ r. ⌜ r ≡ job-of (now (stream .entry)) .object ⌝ }
 {

@@ -1,0 +1,127 @@
+-- What a stream that is ready has for its run and for its report. Assumes nothing.
+use mathlib.Core.Path.{_≡_, refl, sym, ap, subst, _∙_}
+use Prim.Native.Nat.{ℕ, zero, suc, _+_, _*_, _≤_, _<_}
+use native.Mathlib.Omega.{arith}
+use mathlib.Core.List.{List}
+use lib.ListN.{length, getD, replicate, length-replicate}
+use Rattle.basics.specs.Maps.{at}
+use Rattle.basics.specs.Words.{word}
+use Rattle.block.specs.Block.{payload-size}
+use Rattle.job.specs.declared.Kind.{Kind}
+use Rattle.job.specs.Stream.{operations, schedule-length, process, record-at, scheduled, value, stream-length}
+use Rattle.job.specs.Refusals.{most-operations, most-processes, most-steps}
+use Rattle.job.specs.File.{most-blocks, most-stream}
+use Rattle.job.specs.Job.{Job, job-of}
+use Rattle.machine.specs.Run.{state-after}
+use Rattle.machine.specs.Report.{report}
+use Rattle.machine.specs.Explained.{Operation}
+use Rattle.machine.proofs.Sizes.{Fits, report-bounded}
+use Rattle.run.specs.Promise.{Runnable, Room, AllBlank, Ran}
+use Rattle.run.proofs.Loop.{SameLengths}
+use Rattle.report.specs.Holds.{Holds, Remembers}
+use Rattle.replayer.specs.Replay.{least-report}
+use Rattle.replayer.specs.Ready.{Ready}
+use Rattle.replayer.proofs.Stream.{blank}
+use Rattle.replayer.proofs.Told.{told, remembered}
+
+-- memory as it is made: blank, with a cell for every node and every step
+pub fresh-room : Room (replicate 257 0) (replicate 257 0) (replicate 257 0) (replicate 257 0) (replicate 257 0) (replicate 257 0) (replicate 257 0) (replicate 257 0) (replicate 16385 0)
+unfolding most-operations most-steps
+fresh-room =
+    let nodes : 256 < length (replicate {A = ℕ} 257 0) = subst (λ n. 256 < n) (sym (length-replicate {A = ℕ} 257 0)) (omega arith) in
+    let steps : 16384 < length (replicate {A = ℕ} 16385 0) = subst (λ n. 16384 < n) (sym (length-replicate {A = ℕ} 16385 0)) (omega arith) in
+    record {
+      in-next = nodes;
+      in-mark = nodes;
+      in-first = nodes;
+      in-last = nodes;
+      in-start = nodes;
+      in-link = nodes;
+      in-taken = nodes;
+      in-stands = nodes;
+      in-by = steps;
+    }
+
+pub fresh-blank : AllBlank (replicate 257 0) (replicate 257 0) (replicate 257 0) (replicate 257 0) (replicate 257 0) (replicate 257 0) (replicate 257 0) (replicate 257 0) (replicate 16385 0)
+fresh-blank =
+    record {
+      no-next = blank 257;
+      no-mark = blank 257;
+      no-first = blank 257;
+      no-last = blank 257;
+      no-start = blank 257;
+      no-link = blank 257;
+      no-taken = blank 257;
+      no-stands = blank 257;
+      no-by = blank 16385;
+    }
+
+-- lists that keep their lengths keep their room
+pub room-kept : {next mark first last start link taken stands by next′ mark′ first′ last′ start′ link′ taken′ stands′ by′ : List ℕ} → Room next mark first last start link taken stands by → SameLengths next mark first last start link taken stands by next′ mark′ first′ last′ start′ link′ taken′ stands′ by′ → Room next′ mark′ first′ last′ start′ link′ taken′ stands′ by′
+room-kept r l =
+    record {
+      in-next = omega (arith, r .in-next, l .of-next);
+      in-mark = omega (arith, r .in-mark, l .of-mark);
+      in-first = omega (arith, r .in-first, l .of-first);
+      in-last = omega (arith, r .in-last, l .of-last);
+      in-start = omega (arith, r .in-start, l .of-start);
+      in-link = omega (arith, r .in-link, l .of-link);
+      in-taken = omega (arith, r .in-taken, l .of-taken);
+      in-stands = omega (arith, r .in-stands, l .of-stands);
+      in-by = omega (arith, r .in-by, l .of-by);
+    }
+
+module _ {s : List ℕ} (r : Ready s) where
+  -- the limits as numbers, for arithmetic
+  bounds : (operations s ≤ 256) × (schedule-length s ≤ 16384) × (length s ≡ 17710)
+  unfolding most-operations most-steps most-stream most-blocks payload-size
+  bounds = (r .few, r .short, r .long)
+
+  pub header-there : 6 ≤ length s
+  header-there = omega (arith, bounds .2)
+
+  pub stream-there : stream-length s ≤ length s
+  unfolding stream-length
+  stream-there = omega (arith, bounds .0, bounds .1, bounds .2)
+
+  pub runnable : (object : Kind) (count steps : ℕ) → object ≡ job-of s .object → count ≡ operations s → steps ≡ schedule-length s → Runnable s object count steps
+  runnable object count steps o c k =
+      record {
+        its-object = o;
+        its-count = c;
+        its-steps = k;
+        few = subst (λ n. n ≤ most-operations) (sym c) (r .few);
+        short = subst (λ n. n ≤ most-steps) (sym k) (r .short);
+        records = omega (arith, bounds .0, bounds .2);
+        entries = omega (arith, bounds .0, bounds .1, bounds .2);
+        in-range = subst (λ n. (i : ℕ) → 1 ≤ i → i ≤ n → scheduled s i < most-processes) (sym k) (r .in-range);
+      }
+
+  -- bytes make numbers of their size, so the report has room
+  pub fits : ((i : ℕ) → getD s i 0 < 256) → Fits (job-of s)
+  unfolding job-of process record-at value word at
+  fits byte =
+      record {
+        operations = r .few;
+        steps = r .short;
+        owners = λ o op. byte (2 + 4 * o);
+        values = λ o op. omega (arith, byte (2 + 4 * o + 2), byte (suc (2 + 4 * o + 2)));
+      }
+
+  pub report-room : (out : List ℕ) → ((i : ℕ) → getD s i 0 < 256) → least-report ≤ length out → length (report (job-of s)) ≤ length out
+  unfolding least-report most-operations
+  report-room out byte room = omega (arith, report-bounded (job-of s) (fits byte))
+
+  -- what the run leaves, for the steps of the job
+  module _ {steps head tail top : ℕ} {next mark first last start link taken stands by : List ℕ} (its-steps : steps ≡ schedule-length s) (room : Room next mark first last start link taken stands by) (ran : Ran (job-of s) steps head tail top next mark first last start link taken stands by) where
+    whole-run : Ran (job-of s) (job-of s .steps) head tail top next mark first last start link taken stands by
+    unfolding job-of
+    whole-run = subst (λ k. Ran (job-of s) k head tail top next mark first last start link taken stands by) its-steps ran
+
+    pub run-told : Holds (job-of s) (job-of s .steps) first last start link taken stands by
+    unfolding job-of
+    run-told = told (r .few) (r .short) room whole-run
+
+    pub run-remembered : Remembers (job-of s .count) (state-after (job-of s) (job-of s .steps) .memory) next mark head top
+    unfolding job-of
+    run-remembered = remembered (r .few) (r .short) room whole-run
