@@ -1,12 +1,11 @@
 -- A block is accepted exactly if it is the block that the maker makes of its number and payload. Assumes nothing.
 use mathlib.Core.Path.{_≡_, refl, sym, ap, ap₂, subst, _∙_}
 use mathlib.Core.Logic.{_↔_}
-use Prim.Native.Nat.{ℕ, _+_, _-_, _%_, _<_, _≤_}
-use native.Mathlib.Nat.{mod-lt}
+use Prim.Native.Nat.{ℕ, _+_, _-_, _<_}
 use native.Mathlib.Omega.{arith}
 use mathlib.Core.List.{List, [], _∷_, _++_, append-assoc, append-nil}
 use lib.ListN.{length, take, drop, take-append-drop, length-append, length-drop}
-use lib.Seq.{take-at, drop-at, drop-drop, take-add, take-all}
+use lib.Seq.{take-at, drop-drop, take-add, take-all}
 use Rattle.basics.specs.Bytes.{Bytes}
 use Rattle.basics.specs.Words.{word, word-bytes}
 use Rattle.basics.proofs.Words.{word-bytes-at, word-read}

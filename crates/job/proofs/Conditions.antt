@@ -4,11 +4,11 @@ use mathlib.Core.Logic.{_≢_, _⊎_, inl, inr}
 use Prim.Native.Nat.{ℕ, zero, suc, _+_, _-_, _≤_, _<_}
 use native.Mathlib.Numerals.{add-one}
 use native.Mathlib.Omega.{arith}
-use mathlib.Core.Bool.{Bool, true, false, not, _||_, or-true, true≢false}
+use mathlib.Core.Bool.{Bool, true, false, _||_, true≢false}
 use mathlib.Core.List.{List, [], _∷_, _++_}
 use lib.Dec.{ltb}
-use Rattle.basics.specs.Choice.{pick, same, less}
-use Rattle.basics.proofs.Choice.{pick-true, pick-false, pick-elim, lt-less, le-less, equal-same, unequal-same, same-equal, both, split}
+use Rattle.basics.specs.Choice.{pick, less}
+use Rattle.basics.proofs.Choice.{pick-true, pick-false, pick-elim, lt-less, le-less, both, split}
 use Rattle.job.specs.Refusals.{first-met, any, outside}
 
 pub met-here : (n : ℕ) {b : Bool} (l : List (ℕ × Bool)) → b ≡ true → n ≡ first-met ((n, b) ∷ l)

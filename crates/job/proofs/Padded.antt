@@ -1,11 +1,10 @@
 -- The blocks of a padded stream. Assumes nothing.
-use mathlib.Core.Path.{_≡_, refl, sym, ap, _∙_}
+use mathlib.Core.Path.{_≡_, refl, ap, _∙_}
 use Prim.Native.Nat.{ℕ, zero, suc, _+_, _-_, _*_, _≤_, _<_}
 use native.Mathlib.Numerals.{add-one}
 use native.Mathlib.Omega.{arith}
-use mathlib.Core.Bool.{Bool, false, _||_}
 use mathlib.Core.List.{List, [], _∷_, _++_}
-use lib.ListN.{length, take, drop, replicate, length-append, length-take, length-drop, length-replicate}
+use lib.ListN.{length, take, drop, length-append, length-take, length-drop, length-replicate}
 use lib.Seq.{drop-append-le}
 use Rattle.basics.specs.Choice.{less}
 use Rattle.basics.proofs.Choice.{less-le}
@@ -17,7 +16,7 @@ use Rattle.block.proofs.Sizes.{length-filled}
 use Rattle.job.specs.Stream.{operations, schedule-length, stream-length}
 use Rattle.job.specs.Refusals.{exact-count, outside, most-operations, most-steps, bad-operations, bad-schedule-length}
 use Rattle.job.specs.File.{most-blocks, zeros, blocks, padded, file-of}
-use Rattle.job.proofs.Accepted.{Fine, Good-stream}
+use Rattle.job.proofs.Accepted.{Fine}
 use Rattle.job.proofs.Conditions.{or-both}
 use Rattle.job.proofs.Table.{exact-room}
 use Rattle.job.proofs.Pieces.{pieces, length-pieces}

@@ -1,11 +1,11 @@
 -- `block::check` meets its contract: each test is one of the table's conditions. Assumes nothing.
-use mathlib.Core.Path.{_≡_, sym, ap, _∙_}
+use mathlib.Core.Path.{sym, ap, _∙_}
 use native.Mathlib.Omega.{arith}
 use borrow.Author.Needs.{needs}
 use lib.Seq.{length-take-le}
 use Rattle.block.specs.Block.{block-size, summed-size, payload-size}
 use Rattle.block.specs.declared.Sums.{Sums}
-use Rattle.block.proofs.Refusal.{Good, sum-a-differs, sum-b-differs, place-differs, good-accepted}
+use Rattle.block.proofs.Refusal.{sum-a-differs, sum-b-differs, place-differs, good-accepted}
 use Rattle.block.proofs.check.Statement.{statement}
 use Rattle.block.proofs.check.Tie as tie
 

@@ -1,11 +1,8 @@
 -- `block::make` meets its contract: number and payload, and their sums on the part behind them. Assumes nothing.
-use mathlib.Core.Path.{_≡_, refl, sym, ap, _∙_}
-use Prim.Native.Nat.{ℕ, _-_}
-use mathlib.Core.List.{List, _++_}
-use lib.ListN.{length, take, drop}
+use mathlib.Core.Path.{sym}
+use Prim.Native.Nat.{_-_}
+use lib.ListN.{length}
 use lib.Seq.{length-take-le}
-use Rattle.basics.specs.Words.{word-bytes}
-use Rattle.memory.specs.Over.{over}
 use Rattle.memory.proofs.Over.{length-part}
 use Rattle.block.specs.Block.{block-size, summed-size, payload-size}
 use Rattle.block.specs.Answer.{filled}
@@ -13,9 +10,9 @@ use Rattle.block.proofs.Sizes.{length-filled}
 use Rattle.block.proofs.Made.{block-over}
 use Prim.Native.Nat.{_-_}
 use lib.ListN.{length}
-use Rattle.memory.proofs.Over.{over-behind, length-part}
-use Rattle.block.specs.Block.{block-size, summed-size, payload-size, block, sums}
-use Rattle.block.proofs.Sizes.{length-filled, length-front}
+use Rattle.memory.proofs.Over.{length-part}
+use Rattle.block.specs.Block.{block-size, summed-size, payload-size}
+use Rattle.block.proofs.Sizes.{length-filled}
 use borrow.Author.Needs.{needs}
 use native.Mathlib.Omega.{arith}
 use Rattle.block.proofs.make.Statement.{statement}

@@ -6,8 +6,7 @@ use lib.ListN.{length, take, drop, replicate, length-replicate}
 use Rattle.memory.proofs.Over.{over-both, zeros-over, length-part}
 use Rattle.block.specs.Block.{payload-size}
 use Rattle.block.specs.Answer.{filled}
-use lib.ListN.{length, take, drop, replicate, length-replicate, length-drop}
-use lib.Seq.{length-take-le}
+use lib.ListN.{length, take, drop, replicate, length-replicate}
 use Rattle.memory.proofs.Over.{over-both, zeros-over}
 use borrow.Author.Needs.{needs}
 use native.Mathlib.Omega.{arith}
