@@ -1,2 +1,2 @@
--- What a replay gives and leaves, for all arguments.
-pub mod Replay
+-- How the exported calls give their number and length.
+pub mod Packed

@@ -1,1 +1,32 @@
-// The public calls of the bench: see specs/ for what each gives. No code yet.
+// The calls of the bench for C and Rust. Each gives number × 2^32 + length; include/bench.h says what each number means.
+use job::Reply;
+ghost use mathlib.Core.Path.{_≡_};
+ghost use Prim.Native.Nat.{_<_, _^_};
+ghost use Rattle.job.specs.Calls.{read-number, read-length, read-work, write-number, write-length, write-out};
+ghost use Rattle.bench.specs.Packed.{packed};
+
+// A reply as one number.
+fn pack(r: Reply) -> u64
+    requires { ⌜ r .length < 2 ^ 32 ⌝ }
+    ensures { λ n. ⌜ n ≡ packed (r .number) (r .length) ⌝ }
+{
+    (r.number as u64) * 4294967296 + r.length as u64
+}
+
+// Reads a job file into the work memory: L, and the stream and zeros in the first 17,710 work bytes.
+#[no_mangle]
+pub extern "C" fn bench_read(file: &[u8], work: &mut [u8]) -> u64
+    ensures answer { λ r. ⌜ r ≡ packed (read-number (now (file .entry)) (now (work .entry))) (read-length (now (file .entry)) (now (work .entry))) ⌝ }
+    ensures work { λ r. ⌜ now (work .exit) ≡ read-work (now (file .entry)) (now (work .entry)) ⌝ }
+{
+    pack(reader::read(file, work))
+}
+
+// Writes the job file of a stream: its length, and the file in the output.
+#[no_mangle]
+pub extern "C" fn bench_write(stream: &[u8], out: &mut [u8]) -> u64
+    ensures answer { λ r. ⌜ r ≡ packed (write-number (now (stream .entry)) (now (out .entry))) (write-length (now (stream .entry)) (now (out .entry))) ⌝ }
+    ensures out { λ r. ⌜ now (out .exit) ≡ write-out (now (stream .entry)) (now (out .entry)) ⌝ }
+{
+    pack(writer::write(stream, out))
+}

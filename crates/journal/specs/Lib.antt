@@ -1,2 +1,4 @@
 -- What the journal's cells hold after a step, by the step's event.
 pub mod Cells
+pub mod Holds
+pub mod Stored

@@ -3,7 +3,9 @@ ghost use mathlib.Core.Path.{_≡_};
 ghost use Prim.Native.Nat.{_<_, max};
 ghost use lib.ListN.{length};
 ghost use Rattle.basics.specs.Maps.{at, upd};
+ghost use Rattle.basics.specs.Choice.{pick};
 ghost use Rattle.journal.specs.Cells.{cells, noted, earlier, Room};
+ghost use Rattle.journal.specs.Stored.{Stored, Spacious};
 use machine::Event;
 use machine::Operation;
 use machine::Step;
@@ -79,4 +81,37 @@ pub fn note(
         Event::Late(n) => store(taken, o.0, n),
         Event::Raised(t) => note_raise(t, o.0, start, taken, stands),
     }
+}
+
+// Stores the last step of an operation that ended.
+fn store_end(last: &mut [u16], ends: bool, o: u16, k: u16)
+    requires { ⌜ o < length (now last) ⌝ }
+    ensures { λ r. ⌜ at (now (last .exit)) ≡ pick ends (upd (at (now (last .entry))) o k) (at (now (last .entry))) ⌝ }
+{
+    if ends {
+        store(last, o, k);
+    }
+}
+
+// Enters step k, made by operation o: its event, and whether the operation ended.
+pub fn enter(
+    event: Event,
+    ends: bool,
+    o: Operation,
+    k: Step,
+    first: &mut [u16],
+    last: &mut [u16],
+    start: &mut [u16],
+    link: &mut [u16],
+    taken: &mut [u16],
+    stands: &mut [u16],
+    by: &mut [u16],
+)
+    requires { ⌜ Spacious event (o .0) (k .0) (now first) (now last) (now start) (now link) (now taken) (now stands) (now by) ⌝ }
+    ensures { λ r. ⌜ Stored event ends (o .0) (k .0) (now (first .entry)) (now (last .entry)) (now (start .entry)) (now (link .entry)) (now (taken .entry)) (now (stands .entry)) (now (by .entry)) (now (first .exit)) (now (last .exit)) (now (start .exit)) (now (link .exit)) (now (taken .exit)) (now (stands .exit)) (now (by .exit)) ⌝ }
+{
+    store_first(first, o.0, k);
+    store_end(last, ends, o.0, k.0);
+    note(event, o, k, start, link, taken, stands);
+    store(by, k.0, o.0);
 }

@@ -1,7 +1,7 @@
 -- Every register and every cell of a run holds a number of 0 to N, every operation in hand one of 1 to N + 1, and no place stands at an
 -- end: all that the safety of code needs. Assumes nothing.
 use mathlib.Core.Path.{_≡_}
-use Prim.Native.Nat.{ℕ, zero, suc, _-_, _≤_}
+use Prim.Native.Nat.{ℕ, zero, suc, _-_, _≤_, zero-le}
 use native.Mathlib.Omega.{arith}
 use mathlib.Core.Bool.{false}
 use Rattle.basics.specs.Choice.{same}
@@ -11,10 +11,14 @@ use Rattle.basics.proofs.Maps.{upd-elim}
 use Rattle.job.specs.Job.{Job}
 use Rattle.machine.specs.declared.Place.{Place}
 use Rattle.machine.specs.declared.Event.{Event}
+use Rattle.machine.specs.declared.Access.{Access}
+use Rattle.machine.specs.declared.Access.the-variants.{ReadHead, ReadTail, ReadNextOfH, ReadNextOfT, Link, TailToOwn, TailToN, HeadToN, ReadTopToPut, ReadTopToTake, ReadMark, Push, RaiseMark, TopToNext}
+use Rattle.machine.specs.declared.Outcome.{Outcome}
+use Rattle.machine.specs.declared.Outcome.the-variants.{Yes, No, Bare}
 use Rattle.machine.specs.Memory.{Memory, fresh-memory, with-head, with-tail, with-top, with-next, with-mark}
 use Rattle.machine.specs.Access.{Registers, Reached}
 use Rattle.machine.specs.Run.{State, operation-after, before, fresh-state, ended, registers, reached, row-after, place-after, resting, step, state-after}
-use Rattle.machine.specs.Journal.{Answer}
+use Rattle.machine.specs.Journal.{Answer, item-of, event-of}
 use Rattle.machine.proofs.Operations.{Local, reaches, local-after}
 use Rattle.machine.proofs.Operations.Hands.{seek-from, seek-to, begins-going}
 use Rattle.machine.proofs.Turn.{Turn, turn}
@@ -78,6 +82,30 @@ turn-within N own m l (r4-stays e) = record { memory = m; own = l }
 turn-within N own m l (r5-moves e) = record { memory = record { head = m .head; tail = m .tail; top = m .next _; next = m .next }; own = l }
 turn-within N own m l (r5-stays e) = record { memory = m; own = l }
 
+-- the item of an event is one of the registers, or 0
+pub item-within : (N : ℕ) (r : Registers) → RegistersWithin N r → (a : Access) (o : Outcome) → item-of (event-of a o r) ≤ N
+unfolding item-of event-of
+item-within N r w ReadHead o = zero-le
+item-within N r w ReadTail o = zero-le
+item-within N r w ReadNextOfH o = zero-le
+item-within N r w ReadNextOfT o = zero-le
+item-within N r w Link Yes = zero-le
+item-within N r w Link No = zero-le
+item-within N r w Link Bare = zero-le
+item-within N r w TailToOwn o = zero-le
+item-within N r w TailToN o = zero-le
+item-within N r w HeadToN Yes = w .n
+item-within N r w HeadToN No = w .n
+item-within N r w HeadToN Bare = zero-le
+item-within N r w ReadTopToPut o = zero-le
+item-within N r w ReadTopToTake o = zero-le
+item-within N r w ReadMark o = zero-le
+item-within N r w Push Yes = zero-le
+item-within N r w Push No = zero-le
+item-within N r w Push Bare = zero-le
+item-within N r w RaiseMark o = w .t
+item-within N r w TopToNext o = zero-le
+
 -- a place: its operation, its registers, and a row that is no end
 pub record PlaceWithin (N : ℕ) (p : Place) : Type 0 where
   pub from-one : 1 ≤ p .operation .0
@@ -100,7 +128,7 @@ module _ (j : Job) where
         going = begins-going (j .object) (j .is-put (operation-after j p o));
       }
 
-  reached-within : (m : Memory) (p : Place) → p .operation .0 ≤ j .count → MemoryWithin (j .count) m → PlaceWithin (j .count) p → TurnWithin (j .count) (reached m p .memory) (reached m p .registers)
+  pub reached-within : (m : Memory) (p : Place) → p .operation .0 ≤ j .count → MemoryWithin (j .count) m → PlaceWithin (j .count) p → TurnWithin (j .count) (reached m p .memory) (reached m p .registers)
   unfolding reached reaches local-after
   reached-within m p small memory place =
       turn-within (j .count) small memory (place .own)

@@ -11,6 +11,7 @@ pub mod Lines
 pub mod TakesAt
 pub mod Laws
 pub mod Applies
+pub mod Nodes
 pub mod Explains
 pub mod Queue
 pub mod Stack

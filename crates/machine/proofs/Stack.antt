@@ -1,5 +1,4 @@
 -- The stack meets the laws, and where the line of an item's takers stands. Assumes nothing.
-pub mod Nodes
 pub mod Raised
 pub mod Rows
 pub mod Steps

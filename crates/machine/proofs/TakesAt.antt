@@ -22,7 +22,7 @@ use Rattle.machine.proofs.Operations.Locals.{Local, actor}
 use Rattle.machine.proofs.Operations.{Idles, Acts}
 use Rattle.machine.proofs.Turn.{Turn, turned}
 use Rattle.machine.proofs.Turn.Turn.{q1, q2-last, q2-more, q3-links, q3-fails, q4-moves, q4-stays, q5-moves, q5-stays, t1, t2, t3-empty, t3-helps, t3-goes, t4-moves, t4-stays, t5-moves, t5-late, p1-none, p1-some, p2-clear, p2-raised, p3-pushes, p3-fails, p4-moves, p4-stays, r1-none, r1-some, r2-clear, r2-raised, r3, r4-moves, r4-stays, r5-moves, r5-stays}
-use Rattle.machine.proofs.Stamps.{start-other, start-unless, taken-other, taken-unless, taken-new, first-move-unless, first-move-new, first-move-stays}
+use Rattle.machine.proofs.Stamps.{start-zero, first-move-zero, start-other, start-unless, taken-other, taken-unless, taken-new, first-move-unless, first-move-new, first-move-stays}
 use Rattle.machine.proofs.Life.{OfObject, Deeds, deeds, Going, LifeAt, of-object, life, operation-some}
 use Rattle.machine.proofs.Lines.{taker-in, taker-out}
 
@@ -206,6 +206,13 @@ module _ (j : Job) where
       reach (inr higher) =
           let h : top ≤ start j k q = less-le higher in
           (q, opq, e, omega arith)
+
+  -- before the first step no line stands anywhere
+  pub stands-zero : (object : Kind) (item : ℕ) → takes-at object j 0 item ≡ 0
+  unfolding takes-at
+  stands-zero Queue item = first-move-zero j item
+  stands-zero Stack item =
+      latest-start-is 0 item 0 (λ o op e. let z : start j 0 o ≡ 0 = start-zero j o in omega arith) (λ some. absurd (some refl))
 
   -- an operation's part in an item is as it was, or it has none before and after
   Unmoved : ℕ → ℕ → ℕ → Type 0

@@ -22,7 +22,7 @@ use Rattle.machine.proofs.Stamps.{first-move-stays}
 use Rattle.machine.proofs.Lines.{Lineless, Lineless.quiet, Lineless.late, found-empty, taker-in, line-of-none, line-of-link, line-of-move, line-of-empty, line-of-queue-round}
 use Rattle.machine.proofs.Laws.{Applies}
 use Rattle.machine.proofs.Applies.{applies-none, applies-put, applies-empty, applies-takes}
-use Rattle.machine.proofs.Stack.Nodes.{Nodes.end, nodes-walk}
+use Rattle.machine.proofs.Nodes.{Nodes.end, nodes-walk}
 use Rattle.machine.proofs.Queue.Memory.{Sound, Stamps, change-stamps}
 use Rattle.machine.proofs.Queue.Keeps.{Turns, change-keeps}
 use Rattle.machine.proofs.Queue.Contents.{walk-contents}

@@ -6,7 +6,7 @@ use mathlib.Core.List.{List, List·Memᴰ, List·Memᴰ·not-nil, List·Memᴰ·
 use native.Mathlib.Omega.{arith}
 use Rattle.machine.specs.Left.{walk}
 use Rattle.machine.proofs.Lists.{Distinct, Distinct.none, Distinct.more, distinct-at-most}
-use Rattle.machine.proofs.Stack.Nodes.{Nodes, Nodes.end, Nodes.node, nodes-walk}
+use Rattle.machine.proofs.Nodes.{Nodes, Nodes.end, Nodes.node, nodes-walk}
 use Rattle.machine.proofs.Queue.Order.{Order}
 use Rattle.machine.proofs.Queue.Memory.{Now, Sound}
 

@@ -9,7 +9,7 @@ use Rattle.basics.proofs.Choice.{split}
 use Rattle.basics.proofs.Maps.{upd-here, upd-there, upd-elim}
 use Rattle.machine.specs.declared.Event.{Event}
 use Rattle.machine.specs.declared.Event.the-variants.{Quiet, Round, Linked, Moved, Late, Raised}
-use Rattle.machine.proofs.Stack.Nodes.{Nodes, nodes-first}
+use Rattle.machine.proofs.Nodes.{Nodes, nodes-first}
 use Rattle.machine.proofs.Queue.Order.{IsLinked, CanLink, order-later, link-keeps-order, link-keeps-born, link-keeps-linked, link-lengthens}
 use Rattle.machine.proofs.Queue.Memory.{Now, Ends, Sound, Still, Still.quiet, Still.round, Still.late, Change, Change.stays, Change.links, Change.tail-moves, Change.head-moves}
 

@@ -10,7 +10,7 @@ use Rattle.basics.proofs.Choice.{split}
 use Rattle.basics.proofs.Maps.{upd-here}
 use Rattle.machine.specs.declared.Event.{Event}
 use Rattle.machine.specs.declared.Event.the-variants.{Quiet, Round, Linked, Moved, Late, Raised}
-use Rattle.machine.proofs.Stack.Nodes.{Nodes, Nodes.end}
+use Rattle.machine.proofs.Nodes.{Nodes, Nodes.end}
 use Rattle.machine.proofs.Queue.Order.{IsLinked, Order, CanLink}
 
 -- Head, Tail and the nexts; the step that linked a node, and the first that moved Head to it (0: none)

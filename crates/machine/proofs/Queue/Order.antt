@@ -8,7 +8,7 @@ use native.Mathlib.Omega.{arith}
 use Rattle.basics.specs.Maps.{upd}
 use Rattle.basics.proofs.Choice.{split}
 use Rattle.basics.proofs.Maps.{upd-here, upd-there, upd-elim}
-use Rattle.machine.proofs.Stack.Nodes.{Nodes, Nodes.end, Nodes.node}
+use Rattle.machine.proofs.Nodes.{Nodes, Nodes.end, Nodes.node}
 
 -- the sentinel, or a node that a put linked
 abbrev pub IsLinked : (ℕ → ℕ) → ℕ → Type 0

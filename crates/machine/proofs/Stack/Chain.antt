@@ -18,7 +18,7 @@ use Rattle.machine.specs.Explained.{Operation}
 use Rattle.machine.proofs.Lists.{Distinct, distinct-at-most}
 use Rattle.machine.proofs.Stamps.{link-stays, link-new}
 use Rattle.machine.proofs.Operations.{memory, actor}
-use Rattle.machine.proofs.Stack.Nodes.{Nodes, end, node, nodes-unique, nodes-none, nodes-first, nodes-kept, nodes-walk}
+use Rattle.machine.proofs.Nodes.{Nodes, end, node, nodes-unique, nodes-none, nodes-first, nodes-kept, nodes-walk}
 use Rattle.machine.proofs.Stack.Steps.{Happens, Pushes, Pops, rests, pushes, pops, raises, begins}
 use Rattle.machine.proofs.Stack.Keeps.{Keeps, keeps, happens}
 

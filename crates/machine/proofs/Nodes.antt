@@ -1,5 +1,5 @@
--- The nodes from Top down through the nexts, as a list: what a change of one next or of Top does to it, and that a long enough walk
--- finds it. Assumes nothing.
+-- The nodes from one on through the nexts, as a list: what a change of one next does to it, and that a long enough walk finds it. For a
+-- queue the list behind Head, for a stack the list from Top down. Assumes nothing.
 use mathlib.Core.Path.{_≡_, refl, sym, ap, subst}
 use mathlib.Core.Logic.{_≢_}
 use Prim.Native.Nat.{ℕ, zero, suc, _≤_}

@@ -1,0 +1,16 @@
+-- `access::read_top_to_put` meets its contract: the definition computes to the answer. Assumes nothing.
+use mathlib.Core.Path.{refl}
+use Rattle.machine.specs.Access.{access, have-read}
+use Rattle.machine.specs.Journal.{event-of}
+use Rattle.access.specs.View.{memory-of, reached-from, reached-by}
+use borrow.Author.Needs.{needs}
+use Rattle.access.proofs.read_top_to_put.Statement.{statement}
+use Rattle.access.proofs.read_top_to_put.Tie as tie
+
+returns : tie.Need-returns
+unfolding access have-read reached-from reached-by memory-of event-of
+returns c = λ own next mark. rw (c .answer .ensures, c .before .yes-if-same .ensures) (record { reaches = refl; tells = refl })
+
+pub read-top-to-put-spec : {M : Type 1} → statement M
+read-top-to-put-spec =
+    tie.close (tie.spec (λ c κs. search needs) (λ c κs. search needs) returns)

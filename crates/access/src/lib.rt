@@ -1,0 +1,229 @@
+// The fourteen accesses of the step table, a function for each: what a row does to shared memory and to the registers of its
+// operation. Document 01: "A step is one read, one write or one compare-and-set of shared memory, with the private work after it."
+use machine::Event;
+use machine::Outcome;
+ghost use mathlib.Core.Path.{_≡_};
+ghost use mathlib.Core.List.{List};
+ghost use Prim.Native.Nat.{ℕ, _<_};
+ghost use lib.ListN.{length};
+ghost use Rattle.machine.specs.declared.Access.the-variants.{ReadHead, ReadTail, ReadNextOfH, ReadNextOfT, Link, TailToOwn, TailToN, HeadToN, ReadTopToPut, ReadTopToTake, ReadMark, Push, RaiseMark, TopToNext};
+ghost use Rattle.basics.specs.Choice.{same};
+ghost use Rattle.machine.specs.Memory.{set-from-to, yes-if};
+ghost use Rattle.access.specs.View.{Does, Does-alone, answered};
+
+// no node
+const NONE: u16 = 0;
+
+// a mark that is clear
+const CLEAR: u16 = 0;
+
+// a mark that is raised
+const RAISED: u16 = 1;
+
+// The registers of the operation that makes a step, and the cells of shared memory that are no node's.
+pub struct Cells {
+    pub h: u16,
+    pub t: u16,
+    pub n: u16,
+    pub head: u16,
+    pub tail: u16,
+    pub top: u16,
+}
+
+// What an access left in them, how it came out, and what it was for the record.
+pub struct Accessed {
+    pub h: u16,
+    pub t: u16,
+    pub n: u16,
+    pub head: u16,
+    pub tail: u16,
+    pub top: u16,
+    pub outcome: Outcome,
+    pub event: Event,
+}
+
+// The answer of an access that leaves cells `c`.
+fn answer(c: Cells, outcome: Outcome, event: Event) -> Accessed
+    ensures { λ d. ⌜ d ≡ answered c outcome event ⌝ }
+{
+    Accessed {
+        h: c.h,
+        t: c.t,
+        n: c.n,
+        head: c.head,
+        tail: c.tail,
+        top: c.top,
+        outcome,
+        event,
+    }
+}
+
+// "«Set A from b to c» changes A only if it holds b."
+fn set_from_to(a: u16, b: u16, c: u16) -> u16
+    ensures { λ r. ⌜ r ≡ set-from-to a b c ⌝ }
+{
+    if a == b {
+        return c;
+    }
+    a
+}
+
+// Did the test hold, or the change happen?
+fn yes_if_same(a: u16, b: u16) -> Outcome
+    ensures { λ r. ⌜ r ≡ yes-if (same a b) ⌝ }
+{
+    if a == b {
+        return Outcome::Yes;
+    }
+    Outcome::No
+}
+
+// "T1 read Head as h."
+pub fn read_head(mut c: Cells) -> Accessed
+    ensures { λ d. ⌜ ((own : ℕ) → Does-alone ReadHead own c d) ⌝ }
+{
+    c.h = c.head;
+    answer(c, Outcome::Yes, Event::Round)
+}
+
+// "Q1 read Tail as t." "T2 read Tail as t."
+pub fn read_tail(mut c: Cells) -> Accessed
+    ensures { λ d. ⌜ ((own : ℕ) → Does-alone ReadTail own c d) ⌝ }
+{
+    c.t = c.tail;
+    answer(c, Outcome::Yes, Event::Quiet)
+}
+
+// "T3 read h's next as n: if h = t and n is none, end, empty; if h = t, T4; else T5."
+pub fn read_next_of_h(mut c: Cells, next: &[u16]) -> Accessed
+    requires { ⌜ c .h < length (now next) ⌝ }
+    ensures { λ d. ⌜ ((own : ℕ) (mark : List ℕ) → Does ReadNextOfH own c (now (next .entry)) mark d (now (next .entry)) mark) ⌝ }
+{
+    let h = c.h as usize;
+    c.n = next[h];
+    if c.h != c.t {
+        return answer(c, Outcome::Yes, Event::Quiet);
+    }
+    if c.n == NONE {
+        return answer(c, Outcome::Bare, Event::Quiet);
+    }
+    answer(c, Outcome::No, Event::Quiet)
+}
+
+// "Q2 read t's next as n: none, go to Q3; else Q5."
+pub fn read_next_of_t(mut c: Cells, next: &[u16]) -> Accessed
+    requires { ⌜ c .t < length (now next) ⌝ }
+    ensures { λ d. ⌜ ((own : ℕ) (mark : List ℕ) → Does ReadNextOfT own c (now (next .entry)) mark d (now (next .entry)) mark) ⌝ }
+{
+    let t = c.t as usize;
+    c.n = next[t];
+    let outcome = yes_if_same(c.n, NONE);
+    answer(c, outcome, Event::Quiet)
+}
+
+// "Q3 set t's next from none to the own node: changed, Q4; else Q1."
+pub fn link(own: u16, c: Cells, next: &mut [u16]) -> Accessed
+    requires { ⌜ c .t < length (now next) ⌝ }
+    ensures { λ d. ⌜ ((mark : List ℕ) → Does Link own c (now (next .entry)) mark d (now (next .exit)) mark) ⌝ }
+{
+    let t = c.t as usize;
+    if next[t] == NONE {
+        next[t] = own;
+        return answer(c, Outcome::Yes, Event::Linked);
+    }
+    answer(c, Outcome::No, Event::Quiet)
+}
+
+// "Q4 set Tail from t to the own node"
+pub fn tail_to_own(own: u16, mut c: Cells) -> Accessed
+    ensures { λ d. ⌜ Does-alone TailToOwn own c d ⌝ }
+{
+    let outcome = yes_if_same(c.tail, c.t);
+    c.tail = set_from_to(c.tail, c.t, own);
+    answer(c, outcome, Event::Quiet)
+}
+
+// "Q5 set Tail from t to n; Q1." "T4 set Tail from t to n; T1."
+pub fn tail_to_n(mut c: Cells) -> Accessed
+    ensures { λ d. ⌜ ((own : ℕ) → Does-alone TailToN own c d) ⌝ }
+{
+    let outcome = yes_if_same(c.tail, c.t);
+    c.tail = set_from_to(c.tail, c.t, c.n);
+    answer(c, outcome, Event::Quiet)
+}
+
+// "T5 set Head from h to n"
+pub fn head_to_n(mut c: Cells) -> Accessed
+    ensures { λ d. ⌜ ((own : ℕ) → Does-alone HeadToN own c d) ⌝ }
+{
+    if c.head == c.h {
+        c.head = c.n;
+        return answer(c, Outcome::Yes, Event::Moved(c.n));
+    }
+    answer(c, Outcome::No, Event::Late(c.n))
+}
+
+// "P1 read Top as t: none, P3; else P2."
+pub fn read_top_to_put(mut c: Cells) -> Accessed
+    ensures { λ d. ⌜ ((own : ℕ) → Does-alone ReadTopToPut own c d) ⌝ }
+{
+    c.t = c.top;
+    let outcome = yes_if_same(c.top, NONE);
+    answer(c, outcome, Event::Quiet)
+}
+
+// "R1 read Top as t: none, end, empty; else R2."
+pub fn read_top_to_take(mut c: Cells) -> Accessed
+    ensures { λ d. ⌜ ((own : ℕ) → Does-alone ReadTopToTake own c d) ⌝ }
+{
+    c.t = c.top;
+    if c.top == NONE {
+        return answer(c, Outcome::Bare, Event::Round);
+    }
+    answer(c, Outcome::Yes, Event::Round)
+}
+
+// "P2 read t's mark: clear, P3; else P4." "R2 read t's mark: clear, R3; else R5."
+pub fn read_mark(c: Cells, mark: &[u16]) -> Accessed
+    requires { ⌜ c .t < length (now mark) ⌝ }
+    ensures { λ d. ⌜ ((own : ℕ) (next : List ℕ) → Does ReadMark own c next (now (mark .entry)) d next (now (mark .entry))) ⌝ }
+{
+    let t = c.t as usize;
+    let outcome = yes_if_same(mark[t], CLEAR);
+    answer(c, outcome, Event::Quiet)
+}
+
+// "P3 set Top from t to the own node, whose next becomes t: changed, end, done; else P1."
+pub fn push(own: u16, mut c: Cells, next: &mut [u16]) -> Accessed
+    requires { ⌜ own < length (now next) ⌝ }
+    ensures { λ d. ⌜ ((mark : List ℕ) → Does Push own c (now (next .entry)) mark d (now (next .exit)) mark) ⌝ }
+{
+    if c.top == c.t {
+        c.top = own;
+        let node = own as usize;
+        next[node] = c.t;
+        return answer(c, Outcome::Yes, Event::Linked);
+    }
+    answer(c, Outcome::No, Event::Quiet)
+}
+
+// "R3 raise t's mark."
+pub fn raise_mark(c: Cells, mark: &mut [u16]) -> Accessed
+    requires { ⌜ c .t < length (now mark) ⌝ }
+    ensures { λ d. ⌜ ((own : ℕ) (next : List ℕ) → Does RaiseMark own c next (now (mark .entry)) d next (now (mark .exit))) ⌝ }
+{
+    let raised = c.t as usize;
+    mark[raised] = RAISED;
+    answer(c, Outcome::Yes, Event::Raised(c.t))
+}
+
+// "P4", "R4" and "R5 set Top from t to t's next"
+pub fn top_to_next(mut c: Cells, next: &[u16]) -> Accessed
+    requires { ⌜ c .t < length (now next) ⌝ }
+    ensures { λ d. ⌜ ((own : ℕ) (mark : List ℕ) → Does TopToNext own c (now (next .entry)) mark d (now (next .entry)) mark) ⌝ }
+{
+    let t = c.t as usize;
+    let outcome = yes_if_same(c.top, c.t);
+    c.top = set_from_to(c.top, c.t, next[t]);
+    answer(c, outcome, Event::Quiet)
+}

@@ -1,0 +1,53 @@
+-- The length that a call gives is below 2^32, so it fits its half of the packed answer. Assumes nothing.
+use mathlib.Core.Path.{_≡_, refl, sym, ap, _∙_}
+use Prim.Native.Nat.{ℕ, _*_, _^_, _≤_, _<_, min}
+use native.Mathlib.Omega.{arith}
+use mathlib.Core.Bool.{Bool, true, false}
+use mathlib.Core.List.{List}
+use lib.ListN.{length, take, length-take}
+use Rattle.basics.specs.Choice.{pick, same}
+use Rattle.basics.proofs.Choice.{pick-elim, same-equal}
+use Rattle.block.specs.Block.{block-size, payload-size}
+use Rattle.job.specs.Stream.{stream-length}
+use Rattle.job.specs.Refusals.{exact-count}
+use Rattle.job.specs.File.{most-blocks, joined, stream-of, file-of, file-refusal}
+use Rattle.job.specs.Calls.{small-work, read-number, read-length, write-number, write-length}
+use Rattle.job.proofs.Accepted.{Good-file, accepted-good, Good-stream, written-good}
+use Rattle.job.proofs.Padded.{fine-small, length-file-of}
+use Rattle.job.proofs.Table.{exact-room}
+
+-- a number that is 1 under a test is 0 only where the test fails
+pub unless-one : (b : Bool) (n : ℕ) → pick b 1 n ≡ 0 → n ≡ 0
+unfolding pick
+unless-one true n e = absurd (let b : ⊥ = omega arith in b)
+unless-one false n e = e
+
+stream-small : (file : List ℕ) → file-refusal file ≡ 0 → length (stream-of file) < 2 ^ 32
+unfolding stream-of payload-size most-blocks
+stream-small file accepted =
+    let fit : stream-length (joined file) ≤ 506 * exact-count (joined file) = exact-room (joined file) in
+    let few : exact-count (joined file) ≤ 35 = fine-small (joined file) (accepted-good file accepted .fine) in
+    let cut : length (take (stream-length (joined file)) (joined file)) ≡ min (stream-length (joined file)) (length (joined file)) = length-take (stream-length (joined file)) (joined file) in
+    omega arith
+
+pub read-small : (file work : List ℕ) → read-length file work < 2 ^ 32
+unfolding read-length read-number
+read-small file work =
+    pick-elim (λ x. x < 2 ^ 32) (same (read-number file work) 0) (length (stream-of file)) 0
+    (λ e. stream-small file (unless-one (small-work work) (file-refusal file) (same-equal e)))
+    (λ e. omega arith)
+
+file-small : (s out : List ℕ) → write-number s out ≡ 0 → length (file-of s) < 2 ^ 32
+unfolding block-size most-blocks
+file-small s out accepted =
+    let good : Good-stream s = written-good s out accepted .1 in
+    let size : length (file-of s) ≡ 512 * exact-count s = length-file-of s (good .size) in
+    let few : exact-count s ≤ 35 = fine-small s (good .fine) in
+    omega arith
+
+pub write-small : (s out : List ℕ) → write-length s out < 2 ^ 32
+unfolding write-length
+write-small s out =
+    pick-elim (λ x. x < 2 ^ 32) (same (write-number s out) 0) (length (file-of s)) 0
+    (λ e. file-small s out (same-equal e))
+    (λ e. omega arith)

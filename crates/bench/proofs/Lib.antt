@@ -1,0 +1,2 @@
+-- Lengths that fit their half of a packed answer.
+pub mod Lengths

@@ -1,0 +1,3 @@
+-- What a replay gives and leaves, for all arguments.
+pub mod Replay
+pub mod Ready

@@ -1,0 +1,5 @@
+-- What the run's loop keeps, step by step.
+pub mod Bounds
+pub mod Places
+pub mod Turned
+pub mod Loop

@@ -1,0 +1,160 @@
+-- One turn of the run's loop: what the code holds after k steps, with the step that it makes, is what it holds after k + 1. Assumes nothing.
+use mathlib.Core.Path.{_≡_, refl, sym, ap, subst, _∙_}
+use mathlib.Core.Logic.{_≢_, _⊎_, inl, inr}
+use Prim.Native.Nat.{ℕ, suc, _≤_, _<_}
+use native.Mathlib.Omega.{arith}
+use mathlib.Core.Bool.{Bool, true, false}
+use mathlib.Core.List.{List}
+use lib.ListN.{length, getD, set, length-set}
+use lib.Seq.{getD-set-same, getD-set-other}
+use Rattle.basics.specs.Choice.{pick, less}
+use Rattle.basics.specs.Maps.{upd}
+use Rattle.basics.proofs.Choice.{split, pick-then, pick-else, lt-less, le-less}
+use Rattle.basics.proofs.Maps.{upd-here, upd-there}
+use Rattle.job.specs.Refusals.{most-processes}
+use Rattle.job.specs.Job.{Job, job-of}
+use Rattle.machine.specs.declared.Operation as Machine
+use Rattle.machine.specs.declared.Event.{Event}
+use Rattle.machine.specs.declared.Place.{Place}
+use Rattle.machine.specs.Memory.{Memory}
+use Rattle.machine.specs.Table.{row-of}
+use Rattle.machine.specs.Access.{Registers, Reached}
+use Rattle.machine.specs.Run.{State, before, operation-after, ended, reached, row-after, place-after, resting, step, state-after}
+use Rattle.machine.specs.Journal.{Note, idle, acted, note, is-answer, answer-of, event-of}
+use Rattle.machine.proofs.Operations.{Idles, Acts, step-made}
+use Rattle.machine.proofs.Operations.Locals.{actor}
+use Rattle.machine.proofs.Bounds.{within}
+use Rattle.access.specs.View.{memory-of}
+use Rattle.step.specs.declared.Stepped.{Stepped}
+use Rattle.step.specs.Promise.{IsStep}
+use Rattle.journal.specs.Holds.{Holds}
+use Rattle.journal.specs.Stored.{Stored}
+use Rattle.journal.proofs.Whole.{answers-at-end, holds-idle, holds-acts}
+use Rattle.run.specs.Promise.{nowhere, InPlace, Ran, followed}
+
+-- the step of a place, from memory and with the answer of the code, as the definition has it
+pub record Made (place : Place) (m m′ : Memory) (s : Stepped) : Type 0 where
+  pub memory : m′ ≡ reached m place .memory
+  pub registers : record { h = s .h; t = s .t; n = s .n } ≡ reached m place .registers
+  pub row : s .row ≡ row-after place (reached m place)
+  pub event : s .event ≡ event-of (row-of (place .row) .access) (reached m place .outcome) (reached m place .registers)
+
+pub made-from : {place : Place} {head tail top : ℕ} {next mark next′ mark′ : List ℕ} {s : Stepped} {m : Memory} → memory-of head tail top next mark ≡ m → IsStep place head tail top next mark s next′ mark′ → Made place m (memory-of (s .head) (s .tail) (s .top) next′ mark′) s
+made-from {place} {next′ = next′} {mark′ = mark′} {s = s} e is =
+    subst (λ x. Made place x (memory-of (s .head) (s .tail) (s .top) next′ mark′) s) e
+    (record { memory = is .memory; registers = is .registers; row = is .row; event = is .event })
+
+module _ (j : Job) (k : ℕ) where
+  -- the process that is scheduled, its place, and what its step reaches
+  abbrev process : ℕ
+  process = j .entry (suc k)
+
+  abbrev place : Place
+  place = state-after j k .places process
+
+  abbrev a : Reached
+  a = reached (state-after j k .memory) place
+
+  -- a process that rests: the state stays, and the step is idle
+  state-rests : resting j place ≡ true → state-after j (suc k) ≡ state-after j k
+  unfolding state-after step
+  state-rests e = pick-then _ _ e
+
+  note-rests : resting j place ≡ true → note j (suc k) ≡ idle
+  unfolding note
+  note-rests e = pick-then _ _ e
+
+  -- a process that acts
+  state-acts : resting j place ≡ false → state-after j (suc k) ≡ record { memory = a .memory; places = upd (state-after j k .places) process (place-after j process place a) }
+  unfolding state-after step
+  state-acts e = pick-else _ _ e
+
+  note-acts : resting j place ≡ false → note j (suc k) ≡ acted place a
+  unfolding note
+  note-acts e = pick-else _ _ e
+
+  idles : resting j place ≡ true → Idles j k
+  unfolding actor idle
+  idles e = go (step-made j k)
+    where
+      go : Idles j k ⊎ ((o : ℕ) × Acts j k o) → Idles j k
+      go (inl i) = i
+      go (inr (o, acts)) =
+          let z : o ≡ 0 = sym (acts .actor-is) ∙ ap (λ (n : Note). n .by) (note-rests e) in
+          let h : 1 ≤ o = acts .from-one in
+          absurd (let b : ⊥ = omega arith in b)
+
+  acts-of : resting j place ≡ false → Acts j k (place .operation .0)
+  unfolding actor acted
+  acts-of e = go (step-made j k)
+    where
+      own : actor j (suc k) ≡ place .operation .0
+      own = ap (λ (n : Note). n .by) (note-acts e)
+
+      go : Idles j k ⊎ ((o : ℕ) × Acts j k o) → Acts j k (place .operation .0)
+      go (inl i) =
+          let z : place .operation .0 ≡ 0 = sym own ∙ i .nobody in
+          let h : 1 ≤ place .operation .0 = within j k .place process .from-one in
+          absurd (let b : ⊥ = omega arith in b)
+      go (inr (o, acts)) = subst (Acts j k) (sym (acts .actor-is) ∙ own) acts
+
+  -- a resting process leaves everything
+  pub ran-rests : {head tail top : ℕ} {next mark first last start link taken stands by : List ℕ} → resting j place ≡ true → Ran j k head tail top next mark first last start link taken stands by → Ran j (suc k) head tail top next mark first last start link taken stands by
+  ran-rests e r =
+      record {
+        memory = r .memory ∙ ap (λ (s : State). s .memory) (sym (state-rests e));
+        journal = holds-idle j k (idles e) (r .journal);
+      }
+
+  pub places-rest : {places : List Place} → resting j place ≡ true → InPlace j k places → InPlace j (suc k) places
+  places-rest {places} e l = record { eight = l .eight; each = λ p h. l .each p h ∙ ap (λ (s : State). s .places p) (sym (state-rests e)) }
+
+  -- the place that follows is the definition's
+  pub followed-place : {m′ : Memory} {s : Stepped} (ends : Bool) (q : Place) → Made place (state-after j k .memory) m′ s → ends ≡ ended (s .row) → q ≡ pick ends (before j (operation-after j process (place .operation .0))) (record { operation = place .operation; row = s .row; h = s .h; t = s .t; n = s .n }) → q ≡ place-after j process place a
+  unfolding place-after
+  followed-place ends q made e f =
+      f
+      ∙ (λ i.
+      pick ((e ∙ ap ended (made .row)) i) (before j (operation-after j process (place .operation .0)))
+      (record {
+        operation = place .operation;
+        row = made .row i;
+        h = made .registers i .h;
+        t = made .registers i .t;
+        n = made .registers i .n;
+      }))
+
+  pub places-act : (places : List Place) (q : Place) → resting j place ≡ false → process < most-processes → InPlace j k places → q ≡ place-after j process place a → InPlace j (suc k) (set places process q)
+  places-act places q e in-range l f =
+      record { eight = length-set places process q ∙ l .eight; each = λ p h. go p h (split p process) }
+    where
+      now : (p : ℕ) → state-after j (suc k) .places p ≡ upd (state-after j k .places) process (place-after j process place a) p
+      now p = ap (λ (s : State). s .places p) (state-acts e)
+
+      go : (p : ℕ) → p < most-processes → (p ≡ process) ⊎ (p ≢ process) → getD (set places process q) p nowhere ≡ state-after j (suc k) .places p
+      go p h (inl here) =
+          subst (λ x. getD (set places process q) x nowhere ≡ state-after j (suc k) .places x) (sym here)
+          (getD-set-same places process q nowhere (subst (λ n. process < n) (sym (l .eight)) in-range)
+          ∙ f
+          ∙ sym (now process ∙ upd-here _ process _))
+      go p h (inr there) =
+          getD-set-other places process p q nowhere there ∙ l .each p h ∙ sym (now p ∙ upd-there _ process _ there)
+
+  -- an acting process: memory and journal of one more step
+  pub ran-acts : {head tail top : ℕ} {next mark first last start link taken stands by next′ mark′ first′ last′ start′ link′ taken′ stands′ by′ : List ℕ} {s : Stepped} (ends : Bool) → resting j place ≡ false → Ran j k head tail top next mark first last start link taken stands by → IsStep place head tail top next mark s next′ mark′ → ends ≡ ended (s .row) → Stored (s .event) ends (place .operation .0) (suc k) first last start link taken stands by first′ last′ start′ link′ taken′ stands′ by′ → Ran j (suc k) (s .head) (s .tail) (s .top) next′ mark′ first′ last′ start′ link′ taken′ stands′ by′
+  unfolding acted
+  ran-acts {first = first} {last = last} {start = start} {link = link} {taken = taken} {stands = stands} {by = by} {first′ = first′} {last′ = last′} {start′ = start′} {link′ = link′} {taken′ = taken′} {stands′ = stands′} {by′ = by′} {s = s} ends e r is ending stored =
+      let made = made-from (r .memory) is in
+      let event : s .event ≡ note j (suc k) .event = made .event ∙ ap (λ (n : Note). n .event) (sym (note-acts e)) in
+      let answered : is-answer (note j (suc k) .answer) ≡ ends =
+      ap (λ (n : Note). is-answer (n .answer)) (note-acts e)
+      ∙ answers-at-end (row-after place a) (a .registers)
+      ∙ ap ended (sym (made .row))
+      ∙ sym ending
+      in
+      record {
+        memory = made .memory ∙ ap (λ (x : State). x .memory) (sym (state-acts e));
+        journal =
+            holds-acts j k (place .operation .0) (acts-of e) answered (r .journal)
+            (subst (λ v. Stored v ends (place .operation .0) (suc k) first last start link taken stands by first′ last′ start′ link′ taken′ stands′ by′) event stored);
+      }

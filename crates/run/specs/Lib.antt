@@ -1,0 +1,2 @@
+-- What the run of a job promises.
+pub mod Promise

@@ -1,0 +1,88 @@
+-- What the run of a job needs of its stream and its lent memory, and what it leaves there: the definition's state and journal.
+use mathlib.Core.Path.{_≡_}
+use Prim.Native.Nat.{ℕ, _+_, _*_, _≤_, _<_}
+use mathlib.Core.Bool.{Bool}
+use mathlib.Core.List.{List}
+use lib.ListN.{length, getD}
+use Rattle.basics.specs.Choice.{pick}
+use Rattle.basics.specs.Maps.{at}
+use Rattle.job.specs.declared.Kind.{Kind}
+use Rattle.job.specs.Stream.{operations, schedule-length, scheduled}
+use Rattle.job.specs.Refusals.{most-operations, most-processes, most-steps}
+use Rattle.job.specs.Job.{Job, job-of}
+use Rattle.machine.specs.declared.Operation as Machine
+use Rattle.machine.specs.declared.Place.{Place}
+use Rattle.machine.specs.declared.Row.the-variants.{Q1}
+use Rattle.machine.specs.Run.{before, operation-after, state-after}
+use Rattle.access.specs.View.{memory-of}
+use Rattle.step.specs.declared.Stepped.{Stepped}
+use Rattle.journal.specs.Holds.{Holds}
+
+-- the stream has the records of its operations, and an operation in hand is one of them
+pub record Goes (stream : List ℕ) (object : Kind) (count o : ℕ) : Type 0 where
+  pub its-object : object ≡ job-of stream .object
+  pub its-count : count ≡ operations stream
+  pub few : count ≤ 256
+  pub long : 4 * count + 8 ≤ length stream
+  pub in-hand : o ≤ count
+
+-- the place after a step that ended the operation or went on
+unfoldable pub followed : List ℕ → ℕ → Machine.Operation → Bool → Stepped → Place
+followed stream p o ends s =
+    pick ends (before (job-of stream) (operation-after (job-of stream) p (o .0)))
+    (record { operation = o; row = s .row; h = s .h; t = s .t; n = s .n })
+
+abbrev pub Follows : List ℕ → ℕ → Machine.Operation → Bool → Stepped → Place → Type 0
+Follows stream p o ends s r = r ≡ followed stream p o ends s
+
+-- a place that stands for none: an array has it past its end
+abbrev pub nowhere : Place
+nowhere = record { operation = record { 0 = 0 }; row = Q1; h = 0; t = 0; n = 0 }
+
+-- the eight places are those of the definition after k steps
+pub record InPlace (j : Job) (k : ℕ) (places : List Place) : Type 0 where
+  pub eight : length places ≡ most-processes
+  pub each : (p : ℕ) → p < most-processes → getD places p nowhere ≡ state-after j k .places p
+
+-- what a run needs of its stream: the job's object, count and steps, all within their limits, and every scheduled process one of eight
+pub record Runnable (stream : List ℕ) (object : Kind) (count steps : ℕ) : Type 0 where
+  pub its-object : object ≡ job-of stream .object
+  pub its-count : count ≡ operations stream
+  pub its-steps : steps ≡ schedule-length stream
+  pub few : count ≤ most-operations
+  pub short : steps ≤ most-steps
+  pub records : 4 * count + 8 ≤ length stream
+  pub entries : 4 * count + 6 + steps ≤ length stream
+  pub in-range : (k : ℕ) → 1 ≤ k → k ≤ steps → scheduled stream k < most-processes
+
+-- memory and journal are those of the definition after k steps
+pub record Ran (j : Job) (k head tail top : ℕ) (next mark first last start link taken stands by : List ℕ) : Type 0 where
+  pub memory : memory-of head tail top next mark ≡ state-after j k .memory
+  pub journal : Holds j k first last start link taken stands by
+
+-- a cell for every node or operation, and for every step
+pub record Room (next mark first last start link taken stands by : List ℕ) : Type 0 where
+  pub in-next : most-operations < length next
+  pub in-mark : most-operations < length mark
+  pub in-first : most-operations < length first
+  pub in-last : most-operations < length last
+  pub in-start : most-operations < length start
+  pub in-link : most-operations < length link
+  pub in-taken : most-operations < length taken
+  pub in-stands : most-operations < length stands
+  pub in-by : most-steps < length by
+
+-- every cell is 0: "A fresh queue has Head and Tail at node 0 and every next none; a fresh stack has Top none and every mark clear."
+abbrev pub Blank : List ℕ → Type 0
+Blank l = (i : ℕ) → at l i ≡ 0
+
+pub record AllBlank (next mark first last start link taken stands by : List ℕ) : Type 0 where
+  pub no-next : Blank next
+  pub no-mark : Blank mark
+  pub no-first : Blank first
+  pub no-last : Blank last
+  pub no-start : Blank start
+  pub no-link : Blank link
+  pub no-taken : Blank taken
+  pub no-stands : Blank stands
+  pub no-by : Blank by

@@ -1,0 +1,163 @@
+// The run of a job: every step of the schedule, in the order given, on fresh memory.
+use hands::begin;
+use hands::next_operation;
+use job::Kind;
+use machine::Operation;
+use machine::Place;
+use machine::Process;
+use machine::Step;
+use step::Stepped;
+ghost use mathlib.Core.Path.{_≡_};
+ghost use Prim.Native.Nat.{_+_, _*_, _<_, _≤_};
+ghost use lib.ListN.{length};
+ghost use Rattle.job.specs.Stream.{operations, «schedule-length»};
+ghost use Rattle.job.specs.Job.{«job-of»};
+ghost use Rattle.machine.specs.Run.{ended, before, «operation-after»};
+ghost use Rattle.run.specs.Promise.{Goes, Follows, InPlace, Runnable, Room, AllBlank, Ran};
+
+// The run state: "The eight places, one a process, go from step to step together".
+pub struct Run {
+    pub places: [Place; 8],
+}
+
+// The cells of an object that are no node's.
+pub struct Object {
+    pub head: u16,
+    pub tail: u16,
+    pub top: u16,
+}
+
+impl Object {
+    // Nodes 0 to 256, and as many cells for operations.
+    pub const NODES: usize = 257;
+
+    // Steps 1 to 16,384; step 0 is none.
+    pub const STEPS: usize = 16385;
+
+    // "A fresh queue has Head and Tail at node 0 and every next none; a fresh stack has Top none and every mark clear."
+    pub fn fresh() -> Self
+        ensures { λ r. ⌜ (r .head ≡ 0) × (r .tail ≡ 0) × (r .top ≡ 0) ⌝ }
+    {
+        Object {
+            head: 0,
+            tail: 0,
+            top: 0,
+        }
+    }
+}
+
+// The place of process p after its step: further on in operation o, or before its next one.
+fn follow(
+    stream: &[u8],
+    object: Kind,
+    count: u16,
+    p: Process,
+    o: Operation,
+    ends: bool,
+    s: Stepped,
+) -> Place
+    requires { ⌜ Goes (now stream) object count (o .0) ⌝ }
+    ensures { λ r. ⌜ Follows (now (stream .entry)) (p .0) o ends s r ⌝ }
+{
+    if ends {
+        let q = next_operation(stream, count, p, o.0);
+        return begin(stream, object, q);
+    }
+    let row = s.row;
+    Place {
+        operation: o,
+        row,
+        h: s.h,
+        t: s.t,
+        n: s.n,
+    }
+}
+
+// The first place of process p.
+fn first_place(stream: &[u8], object: Kind, count: u16, p: u8) -> Place
+    requires { ⌜ Goes (now stream) object count 0 ⌝ }
+    ensures { λ r. ⌜ r ≡ before (job-of (now (stream .entry))) (operation-after (job-of (now (stream .entry))) p 0) ⌝ }
+{
+    let o = next_operation(stream, count, Process(p), 0);
+    begin(stream, object, o)
+}
+
+// Every process before its first operation.
+fn line_up(stream: &[u8], object: Kind, count: u16) -> Run
+    requires { ⌜ Goes (now stream) object count 0 ⌝ }
+    ensures { λ r. ⌜ InPlace (job-of (now (stream .entry))) 0 (r .places) ⌝ }
+{
+    let first = first_place(stream, object, count, 0);
+    let mut run = Run { places: [first; 8] };
+    let mut p: u8 = 1;
+    while p < 8 {
+        let place = first_place(stream, object, count, p);
+        run.places[p as usize] = place;
+        p += 1;
+    }
+    run
+}
+
+// Runs the whole schedule. The lent memory is blank; it is left with the nodes' nexts and marks and with the journal.
+pub fn run_all(
+    stream: &[u8],
+    object: Kind,
+    count: u16,
+    steps: u16,
+    next: &mut [u16],
+    mark: &mut [u16],
+    first: &mut [u16],
+    last: &mut [u16],
+    start: &mut [u16],
+    link: &mut [u16],
+    taken: &mut [u16],
+    stands: &mut [u16],
+    by: &mut [u16],
+) -> Object
+    requires { ⌜ Runnable (now stream) object count steps ⌝ }
+    requires { ⌜ Room (now next) (now mark) (now first) (now last) (now start) (now link) (now taken) (now stands) (now by) ⌝ }
+    requires { ⌜ AllBlank (now next) (now mark) (now first) (now last) (now start) (now link) (now taken) (now stands) (now by) ⌝ }
+    ensures { λ r. ⌜ Ran (job-of (now (stream .entry))) steps (r .head) (r .tail) (r .top) (now (next .exit)) (now (mark .exit)) (now (first .exit)) (now (last .exit)) (now (start .exit)) (now (link .exit)) (now (taken .exit)) (now (stands .exit)) (now (by .exit)) ⌝ }
+{
+    let mut run = line_up(stream, object, count);
+    let fresh = Object::fresh();
+    let mut head = fresh.head;
+    let mut tail = fresh.tail;
+    let mut top = fresh.top;
+    let entries = 4 * (count as usize) + 6;
+    let mut k: u16 = 0;
+    while k < steps {
+        let p = stream[entries + k as usize];
+        let i = p as usize;
+        let place = run.places[i];
+        let o = place.operation;
+        if count < o.0 {
+            k += 1;
+            continue;
+        }
+        let s = step::step(place, head, tail, top, next, mark);
+        let row = s.row;
+        let event = s.event;
+        let ends = table::has_ended(row);
+        journal::enter(
+            event,
+            ends,
+            o,
+            Step(k + 1),
+            first,
+            last,
+            start,
+            link,
+            taken,
+            stands,
+            by,
+        );
+        let after = follow(stream, object, count, Process(p), o, ends, s);
+        run.places[i] = after;
+        head = s.head;
+        tail = s.tail;
+        top = s.top;
+        k += 1;
+    }
+    Object { head, tail, top }
+}

@@ -1,0 +1,2 @@
+-- What the step of a place needs, and what it promises.
+pub mod Promise

@@ -1,0 +1,32 @@
+-- What the step of a place needs, and what it promises: the step of the definition, on shared memory as the code holds it.
+use mathlib.Core.Path.{_≡_}
+use Prim.Native.Nat.{ℕ, _<_}
+use mathlib.Core.List.{List}
+use lib.ListN.{length}
+use Rattle.machine.specs.declared.Place.{Place}
+use Rattle.machine.specs.declared.Entry.{Entry}
+use Rattle.machine.specs.Access.{Registers, Reached}
+use Rattle.machine.specs.Table.{row-of}
+use Rattle.machine.specs.Run.{reached, row-after}
+use Rattle.machine.specs.Journal.{event-of}
+use Rattle.access.specs.View.{memory-of}
+use Rattle.step.specs.declared.Stepped.{Stepped}
+
+-- the own node, h and t are nodes that the lists have
+pub record Inside (own h t : ℕ) (next mark : List ℕ) : Type 0 where
+  pub own-has-next : own < length next
+  pub h-has-next : h < length next
+  pub t-has-next : t < length next
+  pub t-has-mark : t < length mark
+
+-- the step of place `p` on memory and lists as given, with the lists as it left them
+pub record IsStep (p : Place) (head tail top : ℕ) (next mark : List ℕ) (r : Stepped) (next' mark' : List ℕ) : Type 0 where
+  pub memory : memory-of (r .head) (r .tail) (r .top) next' mark' ≡ reached (memory-of head tail top next mark) p .memory
+  pub registers : record { h = r .h; t = r .t; n = r .n } ≡ reached (memory-of head tail top next mark) p .registers
+  pub row : r .row ≡ row-after p (reached (memory-of head tail top next mark) p)
+  pub event :
+      r .event
+      ≡ event-of
+      (row-of (p .row) .access)
+      (reached (memory-of head tail top next mark) p .outcome)
+      (reached (memory-of head tail top next mark) p .registers)
