@@ -17,7 +17,7 @@ use Rattle.job.specs.Stream.{operations, schedule-length, stream-length}
 use Rattle.job.specs.Refusals.{exact-count, outside, most-operations, most-steps, bad-operations, bad-schedule-length}
 use Rattle.job.specs.File.{most-blocks, zeros, blocks, padded, file-of}
 use Rattle.job.proofs.Accepted.{Fine}
-use Rattle.job.proofs.Conditions.{or-both}
+use Rattle.job.proofs.Conditions.{or-both, next-left, none-left}
 use Rattle.job.proofs.Table.{exact-room}
 use Rattle.job.proofs.Pieces.{pieces, length-pieces}
 
@@ -53,17 +53,11 @@ length-payload-filled s i = length-filled (take payload-size (drop (payload-size
 module _ (s : List ℕ) {i n : ℕ} where
   pub blocks-next : i < n → blocks s i (n - i) ≡ block i (take payload-size (drop (payload-size * i) s)) ++ blocks s (i + 1) (n - (i + 1))
   unfolding blocks
-  blocks-next h = simp (left, add-one)
-    where
-      left : n - i ≡ suc (n - (i + 1))
-      left = omega arith
+  blocks-next h = simp (next-left h, add-one)
 
   pub blocks-end : n ≤ i → blocks s i (n - i) ≡ []
   unfolding blocks
-  blocks-end h = simp none
-    where
-      none : n - i ≡ zero
-      none = omega arith
+  blocks-end h = simp (none-left h)
 
 -- a stream in range wants no more blocks than a file may have
 pub fine-small : (s : List ℕ) → Fine s → exact-count s ≤ most-blocks

@@ -50,5 +50,5 @@ module _ (s : List ℕ) (n : ℕ) where
 pub count-has-room : (s : List ℕ) (n : ℕ) {k : ℕ} → k ≡ exact-count s → k ≡ n → length s ≡ payload-size * n → stream-length s ≤ length s
 unfolding payload-size
 count-has-room s n e h size =
-    let room : stream-length s ≤ 506 * exact-count s = exact-room s in
+    let room : stream-length s ≤ payload-size * exact-count s = exact-room s in
     omega arith

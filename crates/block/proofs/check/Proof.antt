@@ -10,8 +10,8 @@ use Rattle.block.proofs.check.Statement.{statement}
 use Rattle.block.proofs.check.Tie as tie
 
 slice-aggregate-of : tie.Need-slice-aggregate-of
-unfolding block-size
-slice-aggregate-of c = sym (length-take-le 508 (c .before .before .args .b .now) (omega arith))
+unfolding block-size summed-size payload-size
+slice-aggregate-of c = sym (length-take-le summed-size (c .before .before .args .b .now) (omega arith))
 
 of-requires : tie.Need-of-requires
 of-requires c κs = search needs

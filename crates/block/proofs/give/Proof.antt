@@ -38,7 +38,7 @@ part-copy-end c = omega arith
 
 copy-requires : tie.Need-copy-requires
 unfolding block-size payload-size
-copy-requires c κs = omega (arith, length-part (c .before .before .before .before .before .before .before .args .b .now) 2 506 (omega arith))
+copy-requires c κs = omega (arith, length-part (c .before .before .before .before .before .before .before .args .b .now) 2 payload-size (omega arith))
 
 same-length : tie.Need-same-length
 same-length c = search needs

@@ -27,8 +27,8 @@ unfolding block-size
 slice-reshare-prefix-of c = omega arith
 
 slice-aggregate-of : tie.Need-slice-aggregate-of
-unfolding block-size
-slice-aggregate-of c = sym (length-take-le 508 (c .before .before .before .put-front .last .0) (omega arith))
+unfolding block-size summed-size payload-size
+slice-aggregate-of c = sym (length-take-le summed-size (c .before .before .before .put-front .last .0) (omega arith))
 
 of-requires : tie.Need-of-requires
 of-requires c κs = search needs
@@ -45,10 +45,10 @@ part-put-sums-end : tie.Need-part-put-sums-end
 part-put-sums-end c = search needs
 
 put-sums-requires : tie.Need-put-sums-requires
-unfolding block-size
+unfolding block-size summed-size payload-size
 put-sums-requires c κs =
     let m = c .before .before .before .before .before .put-front .last .0 in
-    omega (arith, length-part m 508 (length m - 508) (omega arith))
+    omega (arith, length-part m summed-size (length m - summed-size) (omega arith))
 
 same-length : tie.Need-same-length
 same-length c = search needs

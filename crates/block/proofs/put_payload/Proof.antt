@@ -39,7 +39,7 @@ unfolding filled payload-size
 returns c =
     let p = c .before .before .before .before .before .before .before .before .before .before .args in
     let n : ℕ = length (p .payload .now) in
-    let k : ℕ = 506 - n in
+    let k : ℕ = payload-size - n in
     let m : List ℕ = c .before .before .before .before .before .before .copy .last .0 in
     let zeros : List ℕ = replicate k 0 in
     let size : length zeros ≡ k = length-replicate k 0 in
