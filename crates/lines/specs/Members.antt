@@ -1,0 +1,31 @@
+-- The takers of an item and the items that are left, as the arrays that hold a run's outcome say them.
+use Prim.Native.Nat.{ℕ, _≤_, _<_}
+use mathlib.Core.Bool.{Bool, true}
+use mathlib.Core.List.{List}
+use lib.ListN.{length}
+use Rattle.basics.specs.Choice.{same}
+use Rattle.basics.specs.Maps.{at}
+use Rattle.job.specs.declared.Kind.{Kind}
+use Rattle.job.specs.declared.Kind.the-variants.{Queue, Stack}
+use Rattle.machine.specs.Effects.{numbers, sift}
+use Rattle.machine.specs.Left.{walk}
+
+-- the operations from 1 to `count` that took an item, ascending
+unfoldable pub takers-of : (ℕ → ℕ) → ℕ → ℕ → List ℕ
+takers-of taken count item = sift (λ o. same (taken o) item) (numbers count)
+
+-- is a node that is reached still there? "for a stack the unmarked nodes"
+unfoldable pub stays : Kind → (ℕ → ℕ) → ℕ → Bool
+stays Queue mark i = true
+stays Stack mark i = same (mark i) 0
+
+-- the items that are left, from a node on
+unfoldable pub left-from : Kind → (ℕ → ℕ) → (ℕ → ℕ) → ℕ → ℕ → List ℕ
+left-from object next mark node count = sift (stays object mark) (walk next node count)
+
+-- the nodes 0 to `count` are in both arrays, every next is one of them, and so is the first
+pub record Nodes (next mark : List ℕ) (count node : ℕ) : Type 0 where
+  pub nexts : count < length next
+  pub marks : count < length mark
+  pub within : (i : ℕ) → i ≤ count → at next i ≤ count
+  pub first : node ≤ count

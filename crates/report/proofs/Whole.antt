@@ -1,0 +1,31 @@
+-- The pieces of the report, and what the arrays hold for each. Assumes nothing.
+use mathlib.Core.Path.{_≡_, ap, sym, subst, _∙_}
+use Prim.Native.Nat.{ℕ, _+_, _≤_}
+use native.Mathlib.Nat.{zero-add}
+use mathlib.Core.List.{List, _++_}
+use lib.ListN.{length}
+use Rattle.text.specs.Laid.{Wrote}
+use Rattle.job.specs.declared.Kind.{Kind}
+use Rattle.job.specs.Job.{Job}
+use Rattle.machine.specs.Record.{lines-to, the-record}
+use Rattle.machine.specs.Left.{left}
+use Rattle.machine.specs.Report.{object-line, operation-lines, record-lines, left-line, report}
+use Rattle.report.specs.Holds.{Holds, HoldsAnswers, HoldsEffects, Reported}
+
+module _ (j : Job) {object : Kind} {count steps : ℕ} (of : object ≡ j .object) (all : count ≡ j .count) (long : steps ≡ j .steps) where
+  pub report-pieces : object-line object ++ operation-lines j (j .steps) count ++ record-lines (lines-to j (j .steps) steps) ++ left-line (left j (j .steps)) ≡ report j
+  unfolding report the-record
+  report-pieces =
+      ap (λ (o : Kind). object-line o ++ operation-lines j (j .steps) count ++ record-lines (lines-to j (j .steps) steps) ++ left-line (left j (j .steps))) of
+      ∙ ap (λ (n : ℕ). object-line (j .object) ++ operation-lines j (j .steps) n ++ record-lines (lines-to j (j .steps) steps) ++ left-line (left j (j .steps))) all
+      ∙ ap (λ (n : ℕ). object-line (j .object) ++ operation-lines j (j .steps) (j .count) ++ record-lines (lines-to j (j .steps) n) ++ left-line (left j (j .steps))) long
+
+module _ {j : Job} {k : ℕ} {first last start link taken stands by : List ℕ} (h : Holds j k first last start link taken stands by) where
+  pub answers-held : HoldsAnswers j k first last link taken
+  answers-held = record { firsts = h .firsts; lasts = h .lasts; links = h .links; items = h .items }
+
+  pub effects-held : HoldsEffects j k last start link taken stands
+  effects-held = record { lasts = h .lasts; starts = h .starts; links = h .links; items = h .items; lines = h .lines }
+
+pub reported : {before after bytes : List ℕ} {told : ℕ} → Wrote before after 0 told bytes → Reported before after told bytes
+reported {bytes} w = record { writes = w .lays; tells = w .behind ∙ zero-add (length bytes) }

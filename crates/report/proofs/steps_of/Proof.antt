@@ -1,0 +1,17 @@
+-- `report::steps_of` meets its contract. Assumes nothing.
+use native.Mathlib.Omega.{arith}
+use Rattle.job.specs.Stream.{schedule-length, stream-length}
+use Rattle.job.specs.Job.{job-of}
+use Rattle.report.proofs.steps_of.Statement.{statement}
+use Rattle.report.proofs.steps_of.Tie as tie
+
+word-at-requires : tie.Need-word-at-requires
+unfolding stream-length
+word-at-requires c κs = omega arith
+
+returns : tie.Need-returns
+unfolding job-of schedule-length
+returns c = c .word-at .ensures
+
+pub steps-of-spec : {M : Type 1} → statement M
+steps-of-spec = tie.close (tie.spec word-at-requires returns)

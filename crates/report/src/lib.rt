@@ -1,0 +1,268 @@
+// The report of a finished run, from the arrays that it leaves.
+use job::Kind;
+use lines::empty_line;
+use lines::left_line;
+use lines::object_line;
+use lines::operation_line;
+use lines::put_line;
+use lines::take_line;
+use lines::word_at;
+use machine::Operation;
+use machine::Step;
+ghost use mathlib.Core.Path.{_≡_};
+ghost use Prim.Native.Nat.{_+_, _≤_, _<_};
+ghost use lib.ListN.{length};
+ghost use Rattle.basics.specs.Maps as Maps;
+ghost use Rattle.text.specs.Laid.{Wrote};
+ghost use Rattle.job.specs.Stream.{stream-length};
+ghost use Rattle.job.specs.Job.{job-of};
+ghost use Rattle.machine.specs.Run.{state-after};
+ghost use Rattle.machine.specs.Journal.{note};
+ghost use Rattle.machine.specs.Record.{line-at, lines-to, the-record};
+ghost use Rattle.machine.specs.Left.{left};
+ghost use Rattle.machine.specs.Explained as Explained;
+ghost use Rattle.machine.specs.Report.{operation-line, operation-lines, record-lines, left-line, report};
+ghost use Rattle.report.specs.Holds.{Column, Holds, HoldsAnswers, HoldsEffects, Remembers, first-node, Reported};
+
+// The object of a job.
+fn object_of(stream: &[u8]) -> Kind
+    requires { ⌜ stream-length (now stream) ≤ length (now stream) ⌝ }
+    ensures { λ r. ⌜ r ≡ job-of (now (stream .entry)) .object ⌝ }
+{
+    if stream[0] == 1 {
+        Kind::Queue
+    } else {
+        Kind::Stack
+    }
+}
+
+// The number of a job's operations.
+fn count_of(stream: &[u8]) -> u16
+    requires { ⌜ stream-length (now stream) ≤ length (now stream) ⌝ }
+    ensures { λ r. ⌜ r ≡ job-of (now (stream .entry)) .count ⌝ }
+{
+    word_at(stream, 2)
+}
+
+// The number of a job's steps.
+fn steps_of(stream: &[u8]) -> u16
+    requires { ⌜ stream-length (now stream) ≤ length (now stream) ⌝ }
+    ensures { λ r. ⌜ r ≡ job-of (now (stream .entry)) .steps ⌝ }
+{
+    word_at(stream, 4)
+}
+
+// The line of an operation, by the arrays.
+fn line_of(
+    out: &mut [u8],
+    at: usize,
+    stream: &[u8],
+    first: &[u16],
+    last: &[u16],
+    link: &[u16],
+    taken: &[u16],
+    o: Operation,
+) -> usize
+    requires { ⌜ (stream-length (now stream) ≤ length (now stream)) × Explained.Operation (job-of (now stream)) (o .0) ⌝ }
+    requires { ⌜ HoldsAnswers (job-of (now stream)) (job-of (now stream) .steps) (now first) (now last) (now link) (now taken) ⌝ }
+    requires { ⌜ at + length (operation-line (job-of (now stream)) (job-of (now stream) .steps) (o .0)) ≤ length (now out) ⌝ }
+    ensures { λ r. ⌜ Wrote (now (out .entry)) (now (out .exit)) at r (operation-line (job-of (now (stream .entry))) (job-of (now (stream .entry)) .steps) (o .0)) ⌝ }
+{
+    let i = o.0 as usize;
+    operation_line(
+        out,
+        at,
+        stream,
+        o,
+        Step(first[i]),
+        Step(last[i]),
+        Step(link[i]),
+        Operation(taken[i]),
+    )
+}
+
+// The lines of operations, in number order.
+fn operation_lines(
+    out: &mut [u8],
+    at: usize,
+    stream: &[u8],
+    first: &[u16],
+    last: &[u16],
+    link: &[u16],
+    taken: &[u16],
+    count: u16,
+) -> usize
+    requires { ⌜ (stream-length (now stream) ≤ length (now stream)) × (count ≡ job-of (now stream) .count) ⌝ }
+    requires { ⌜ HoldsAnswers (job-of (now stream)) (job-of (now stream) .steps) (now first) (now last) (now link) (now taken) ⌝ }
+    requires { ⌜ at + length (operation-lines (job-of (now stream)) (job-of (now stream) .steps) count) ≤ length (now out) ⌝ }
+    ensures { λ r. ⌜ Wrote (now (out .entry)) (now (out .exit)) at r (operation-lines (job-of (now (stream .entry))) (job-of (now (stream .entry)) .steps) count) ⌝ }
+{
+    let mut place = at;
+    let mut o: u16 = 0;
+    while o < count {
+        o += 1;
+        place = line_of(out, place, stream, first, last, link, taken, Operation(o));
+    }
+    place
+}
+
+// The line of a step, if there is one: the effect of the operation that made it, by the arrays.
+fn step_line(
+    out: &mut [u8],
+    at: usize,
+    stream: &[u8],
+    last: &[u16],
+    start: &[u16],
+    link: &[u16],
+    taken: &[u16],
+    stands: &[u16],
+    count: u16,
+    s: Step,
+    o: Operation,
+) -> usize
+    requires { ⌜ (count ≡ job-of (now stream) .count) × Explained.Operation (job-of (now stream)) (o .0) × (note (job-of (now stream)) (s .0) .by ≡ o .0) ⌝ }
+    requires { ⌜ HoldsEffects (job-of (now stream)) (job-of (now stream) .steps) (now last) (now start) (now link) (now taken) (now stands) ⌝ }
+    requires { ⌜ at + length (record-lines (line-at (job-of (now stream)) (job-of (now stream) .steps) (s .0))) ≤ length (now out) ⌝ }
+    ensures { λ r. ⌜ Wrote (now (out .entry)) (now (out .exit)) at r (record-lines (line-at (job-of (now (stream .entry))) (job-of (now (stream .entry)) .steps) (s .0))) ⌝ }
+{
+    let i = o.0 as usize;
+    let linked = link[i];
+    if linked != 0 {
+        if linked != s.0 {
+            return at;
+        }
+        return put_line(out, at, s, o);
+    }
+    let item = taken[i];
+    if item != 0 {
+        if stands[item as usize] != s.0 {
+            return at;
+        }
+        return take_line(out, at, s, taken, count, Operation(item));
+    }
+    if last[i] == 0 {
+        return at;
+    }
+    if start[i] != s.0 {
+        return at;
+    }
+    empty_line(out, at, s, o)
+}
+
+// The record, in step order.
+fn record_lines(
+    out: &mut [u8],
+    at: usize,
+    stream: &[u8],
+    last: &[u16],
+    start: &[u16],
+    link: &[u16],
+    taken: &[u16],
+    stands: &[u16],
+    by: &[u16],
+    count: u16,
+    steps: u16,
+) -> usize
+    requires { ⌜ (count ≡ job-of (now stream) .count) × (steps ≡ job-of (now stream) .steps) × Column 1 steps (now by) (λ s. note (job-of (now stream)) s .by) ⌝ }
+    requires { ⌜ HoldsEffects (job-of (now stream)) (job-of (now stream) .steps) (now last) (now start) (now link) (now taken) (now stands) ⌝ }
+    requires { ⌜ at + length (record-lines (lines-to (job-of (now stream)) (job-of (now stream) .steps) steps)) ≤ length (now out) ⌝ }
+    ensures { λ r. ⌜ Wrote (now (out .entry)) (now (out .exit)) at r (record-lines (lines-to (job-of (now (stream .entry))) (job-of (now (stream .entry)) .steps) steps)) ⌝ }
+{
+    let mut place = at;
+    let mut s: u16 = 0;
+    while s < steps {
+        s += 1;
+        let o = by[s as usize];
+        if o == 0 {
+            continue;
+        }
+        place = step_line(
+            out,
+            place,
+            stream,
+            last,
+            start,
+            link,
+            taken,
+            stands,
+            count,
+            Step(s),
+            Operation(o),
+        );
+    }
+    place
+}
+
+// The node from which the items that are left are walked.
+fn first_node(object: Kind, next: &[u16], head: u16, top: u16) -> u16
+    requires { ⌜ head < length (now next) ⌝ }
+    ensures { λ r. ⌜ r ≡ first-node object (Maps.at (now (next .entry))) head top ⌝ }
+{
+    match object {
+        Kind::Queue => next[head as usize],
+        Kind::Stack => top,
+    }
+}
+
+// What is left, read from the shared memory.
+fn left_of(
+    out: &mut [u8],
+    at: usize,
+    stream: &[u8],
+    object: Kind,
+    next: &[u16],
+    mark: &[u16],
+    head: u16,
+    top: u16,
+    count: u16,
+) -> usize
+    requires { ⌜ (object ≡ job-of (now stream) .object) × (count ≡ job-of (now stream) .count) ⌝ }
+    requires { ⌜ Remembers count (state-after (job-of (now stream)) (job-of (now stream) .steps) .memory) (now next) (now mark) head top ⌝ }
+    requires { ⌜ at + length (left-line (left (job-of (now stream)) (job-of (now stream) .steps))) ≤ length (now out) ⌝ }
+    ensures { λ r. ⌜ Wrote (now (out .entry)) (now (out .exit)) at r (left-line (left (job-of (now (stream .entry))) (job-of (now (stream .entry)) .steps))) ⌝ }
+{
+    let node = first_node(object, next, head, top);
+    left_line(out, at, object, next, mark, node, count)
+}
+
+// The report of a finished run, at the front of a memory, and its length.
+pub fn write_report(
+    out: &mut [u8],
+    stream: &[u8],
+    first: &[u16],
+    last: &[u16],
+    start: &[u16],
+    link: &[u16],
+    taken: &[u16],
+    stands: &[u16],
+    by: &[u16],
+    next: &[u16],
+    mark: &[u16],
+    head: u16,
+    top: u16,
+) -> usize
+    requires { ⌜ Holds (job-of (now stream)) (job-of (now stream) .steps) (now first) (now last) (now start) (now link) (now taken) (now stands) (now by) ⌝ }
+    requires { ⌜ Remembers (job-of (now stream) .count) (state-after (job-of (now stream)) (job-of (now stream) .steps) .memory) (now next) (now mark) head top ⌝ }
+    requires { ⌜ (stream-length (now stream) ≤ length (now stream)) × (length (report (job-of (now stream))) ≤ length (now out)) ⌝ }
+    ensures { λ r. ⌜ Reported (now (out .entry)) (now (out .exit)) r (report (job-of (now (stream .entry)))) ⌝ }
+{
+    let object = object_of(stream);
+    let count = count_of(stream);
+    let steps = steps_of(stream);
+    let place = object_line(out, 0, object);
+    let place = operation_lines(out, place, stream, first, last, link, taken, count);
+    let place = record_lines(
+        out,
+        place,
+        stream,
+        last,
+        start,
+        link,
+        taken,
+        stands,
+        by,
+        count,
+        steps,
+    );
+    left_of(out, place, stream, object, next, mark, head, top, count)
+}

@@ -1,0 +1,2 @@
+-- Text written into lent memory.
+pub mod Laid
