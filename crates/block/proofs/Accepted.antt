@@ -1,12 +1,11 @@
 -- A block is accepted exactly if it is the block that the maker makes of its number and payload. Assumes nothing.
 use mathlib.Core.Path.{_≡_, refl, sym, ap, ap₂, subst, _∙_}
 use mathlib.Core.Logic.{_↔_}
-use Prim.Native.Nat.{ℕ, _+_, _-_, _%_, _<_, _≤_}
-use native.Mathlib.Nat.{mod-lt}
+use Prim.Native.Nat.{ℕ, _+_, _-_, _<_}
 use native.Mathlib.Omega.{arith}
 use mathlib.Core.List.{List, [], _∷_, _++_, append-assoc, append-nil}
 use lib.ListN.{length, take, drop, take-append-drop, length-append, length-drop}
-use lib.Seq.{take-at, drop-at, drop-drop, take-add, take-all}
+use lib.Seq.{take-at, drop-drop, take-add, take-all}
 use Rattle.basics.specs.Bytes.{Bytes}
 use Rattle.basics.specs.Words.{word, word-bytes}
 use Rattle.basics.proofs.Words.{word-bytes-at, word-read}
@@ -36,20 +35,20 @@ sums-small l = add-bytes-small (record { a = 1; b = 0 }) l (record { a = omega a
 
 pub length-payload : (b : List ℕ) → length b ≡ block-size → length (payload-of b) ≡ payload-size
 unfolding payload-of payload-size block-size
-length-payload b size = length-part b 2 506 (omega arith)
+length-payload b size = length-part b 2 payload-size (omega arith)
 
 -- a block's number and payload
 pub front-of : (b : List ℕ) → Bytes b → length b ≡ block-size → take summed-size b ≡ word-bytes (word b 0) ++ payload-of b
 unfolding summed-size payload-size payload-of block-size
-front-of b h size = take-add 2 506 b ∙ ap (λ (t : List ℕ). t ++ take 506 (drop 2 b)) (word-bytes-at b 0 h (omega arith))
+front-of b h size = take-add 2 payload-size b ∙ ap (λ (t : List ℕ). t ++ take payload-size (drop 2 b)) (word-bytes-at b 0 h (omega arith))
 
 -- a block's sums
 back-of : (b : List ℕ) → Bytes b → length b ≡ block-size → drop summed-size b ≡ word-bytes (word b summed-size) ++ word-bytes (word b (summed-size + 2))
 unfolding summed-size payload-size block-size
 back-of b h size =
-    let last : length (drop 510 b) ≡ length b - 510 = length-drop 510 b in
-    sym (take-append-drop 2 (drop 508 b))
-    ∙ ap₂ _++_ (word-bytes-at b 508 h (omega arith)) (drop-drop 2 508 b ∙ sym (take-all 2 (drop 510 b) (omega arith)) ∙ word-bytes-at b 510 h (omega arith))
+    let last : length (drop (summed-size + 2) b) ≡ length b - (summed-size + 2) = length-drop (summed-size + 2) b in
+    sym (take-append-drop 2 (drop summed-size b))
+    ∙ ap₂ _++_ (word-bytes-at b summed-size h (omega arith)) (drop-drop 2 summed-size b ∙ sym (take-all 2 (drop (summed-size + 2) b) (omega arith)) ∙ word-bytes-at b (summed-size + 2) h (omega arith))
 
 good-made : (position : ℕ) (b : List ℕ) → Bytes b → length b ≡ block-size → Good position b → b ≡ block position (payload-of b)
 unfolding block

@@ -2,11 +2,11 @@
 use mathlib.Core.Path.{_≡_, refl, sym, ap, _∙_}
 use mathlib.Core.Logic.{_≢_, _⊎_, inl, inr}
 use Prim.Native.Nat.{ℕ, _+_}
-use mathlib.Core.Bool.{Bool, true, false, not, _||_, or-true}
+use mathlib.Core.Bool.{true, false, or-true}
 use native.Mathlib.Omega.{arith}
 use mathlib.Core.List.{List}
 use lib.ListN.{take}
-use Rattle.basics.specs.Choice.{pick, same}
+use Rattle.basics.specs.Choice.{same}
 use Rattle.basics.specs.Words.{word}
 use Rattle.basics.proofs.Choice.{pick-true, pick-false, equal-same, unequal-same, same-equal, same-unequal, both}
 use Rattle.block.specs.Block.{summed-size, sums, sum-differs, misplaced, block-refusal}

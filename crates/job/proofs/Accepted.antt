@@ -1,17 +1,17 @@
 -- What an accepted file and an accepted stream are: every condition of the table is not met. Assumes nothing.
-use mathlib.Core.Path.{_≡_, refl, sym, ap, _∙_}
-use mathlib.Core.Logic.{_≢_, _⊎_, inl, inr, _↔_}
-use Prim.Native.Nat.{ℕ, _+_, _*_, _/_, _%_, _≤_, _<_}
+use mathlib.Core.Path.{_≡_, sym, ap, _∙_}
+use mathlib.Core.Logic.{_≢_, _⊎_, inl, inr}
+use Prim.Native.Nat.{ℕ, _*_, _%_, _≤_}
 use native.Mathlib.Omega.{arith}
-use mathlib.Core.Bool.{Bool, true, false, not, _||_}
+use mathlib.Core.Bool.{true, false, not, _||_}
 use mathlib.Core.List.{List, [], _∷_, _++_}
 use lib.ListN.{length}
 use borrow.Author.Tests.{not-false}
-use Rattle.basics.specs.Choice.{pick, same, less}
-use Rattle.basics.proofs.Choice.{both, pick-true, pick-false, pick-elim, same-equal, same-unequal, equal-same, unequal-same, less-le, le-less}
-use Rattle.block.specs.Block.{block-size, payload-size}
+use Rattle.basics.specs.Choice.{same, less}
+use Rattle.basics.proofs.Choice.{both, pick-true, pick-false, same-equal, same-unequal, equal-same, unequal-same, less-le, le-less}
+use Rattle.block.specs.Block.{block-size}
 use Rattle.job.specs.Stream.{stream-length}
-use Rattle.job.specs.Refusals.{first-met, exact-count, bad-kind, bad-processes, bad-operations, bad-schedule-length, bad-records, bad-schedule, bad-padding, header-conditions, list-conditions}
+use Rattle.job.specs.Refusals.{exact-count, bad-kind, bad-processes, bad-operations, bad-schedule-length, bad-records, bad-schedule, bad-padding, header-conditions, list-conditions}
 use Rattle.job.specs.File.{most-blocks, most-file, joined, block-count, bad-length, bad-count, blocks-refusal, stream-refusal, file-refusal}
 use Rattle.job.specs.Calls.{write-number}
 use Rattle.job.proofs.Conditions.{zero-unmet, unmet-zero, or-both}

@@ -13,6 +13,7 @@ use Rattle.memory.proofs.Over.{length-part}
 use Rattle.block.specs.Block.{block-size, payload-size, payload-of, block-refusal}
 use Rattle.block.proofs.Accepted.{length-payload}
 use Rattle.job.specs.File.{block-at, payloads, blocks-refusal}
+use Rattle.job.proofs.Conditions.{next-left, none-left}
 use Rattle.job.proofs.Pieces.{pieces, length-pieces}
 
 -- the part of a file that the code lends
@@ -28,38 +29,23 @@ length-block-at file i h = length-part file (block-size * i) block-size h
 module _ (file : List ℕ) {i n : ℕ} where
   pub payloads-next : i < n → payloads file i (n - i) ≡ payload-of (block-at file i) ++ payloads file (i + 1) (n - (i + 1))
   unfolding payloads
-  payloads-next h = simp (left, add-one)
-    where
-      left : n - i ≡ suc (n - (i + 1))
-      left = omega arith
+  payloads-next h = simp (next-left h, add-one)
 
   pub payloads-end : n ≤ i → payloads file i (n - i) ≡ []
   unfolding payloads
-  payloads-end h = simp none
-    where
-      none : n - i ≡ zero
-      none = omega arith
+  payloads-end h = simp (none-left h)
 
   pub refusal-here : i < n → block-refusal i (block-at file i) ≢ 0 → block-refusal i (block-at file i) ≡ blocks-refusal file i (n - i)
   unfolding blocks-refusal
-  refusal-here h e = simp (left, unequal-same e, pick-false)
-    where
-      left : n - i ≡ suc (n - (i + 1))
-      left = omega arith
+  refusal-here h e = simp (next-left h, unequal-same e, pick-false)
 
   pub refusal-next : i < n → block-refusal i (block-at file i) ≡ 0 → blocks-refusal file (i + 1) (n - (i + 1)) ≡ blocks-refusal file i (n - i)
   unfolding blocks-refusal
-  refusal-next h e = simp (left, equal-same e, pick-true, add-one)
-    where
-      left : n - i ≡ suc (n - (i + 1))
-      left = omega arith
+  refusal-next h e = simp (next-left h, equal-same e, pick-true, add-one)
 
   pub refusal-end : n ≤ i → 0 ≡ blocks-refusal file i (n - i)
   unfolding blocks-refusal
-  refusal-end h = simp none
-    where
-      none : n - i ≡ zero
-      none = omega arith
+  refusal-end h = simp (none-left h)
 
 -- the payloads are pieces of one length
 pub payloads-are : (file : List ℕ) (i n : ℕ) → payloads file i n ≡ pieces (λ j. payload-of (block-at file j)) i n

@@ -4,11 +4,11 @@ use mathlib.Core.Logic.{_≢_, _⊎_, inl, inr}
 use Prim.Native.Nat.{ℕ, zero, suc, _+_, _-_, _≤_, _<_}
 use native.Mathlib.Numerals.{add-one}
 use native.Mathlib.Omega.{arith}
-use mathlib.Core.Bool.{Bool, true, false, not, _||_, or-true, true≢false}
+use mathlib.Core.Bool.{Bool, true, false, _||_, true≢false}
 use mathlib.Core.List.{List, [], _∷_, _++_}
 use lib.Dec.{ltb}
-use Rattle.basics.specs.Choice.{pick, same, less}
-use Rattle.basics.proofs.Choice.{pick-true, pick-false, pick-elim, lt-less, le-less, equal-same, unequal-same, same-equal, both, split}
+use Rattle.basics.specs.Choice.{pick, less}
+use Rattle.basics.proofs.Choice.{pick-true, pick-false, pick-elim, lt-less, le-less, both, split}
 use Rattle.job.specs.Refusals.{first-met, any, outside}
 
 pub met-here : (n : ℕ) {b : Bool} (l : List (ℕ × Bool)) → b ≡ true → n ≡ first-met ((n, b) ∷ l)
@@ -23,28 +23,26 @@ pub met-none : 0 ≡ first-met []
 unfolding first-met
 met-none = refl
 
+-- how many are left from `i` up to `n`
+pub next-left : {i n : ℕ} → i < n → n - i ≡ suc (n - (i + 1))
+next-left h = omega arith
+
+pub none-left : {i n : ℕ} → n ≤ i → n - i ≡ zero
+none-left h = omega arith
+
 -- a stretch from `i` up to `n`: what the next number says
 module _ (f : ℕ → Bool) {i n : ℕ} where
   pub any-met : i < n → f i ≡ true → true ≡ any f i (n - i)
   unfolding any
-  any-met h e = simp (left, e)
-    where
-      left : n - i ≡ suc (n - (i + 1))
-      left = omega arith
+  any-met h e = simp (next-left h, e)
 
   pub any-next : i < n → f i ≡ false → any f (i + 1) (n - (i + 1)) ≡ any f i (n - i)
   unfolding any
-  any-next h e = simp (left, e, add-one)
-    where
-      left : n - i ≡ suc (n - (i + 1))
-      left = omega arith
+  any-next h e = simp (next-left h, e, add-one)
 
   pub any-end : n ≤ i → false ≡ any f i (n - i)
   unfolding any
-  any-end h = simp none
-    where
-      none : n - i ≡ zero
-      none = omega arith
+  any-end h = simp (none-left h)
 
 pub below-outside : (low high n : ℕ) → n < low → true ≡ outside low high n
 unfolding outside

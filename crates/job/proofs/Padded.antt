@@ -1,11 +1,10 @@
 -- The blocks of a padded stream. Assumes nothing.
-use mathlib.Core.Path.{_≡_, refl, sym, ap, _∙_}
+use mathlib.Core.Path.{_≡_, refl, ap, _∙_}
 use Prim.Native.Nat.{ℕ, zero, suc, _+_, _-_, _*_, _≤_, _<_}
 use native.Mathlib.Numerals.{add-one}
 use native.Mathlib.Omega.{arith}
-use mathlib.Core.Bool.{Bool, false, _||_}
 use mathlib.Core.List.{List, [], _∷_, _++_}
-use lib.ListN.{length, take, drop, replicate, length-append, length-take, length-drop, length-replicate}
+use lib.ListN.{length, take, drop, length-append, length-take, length-drop, length-replicate}
 use lib.Seq.{drop-append-le}
 use Rattle.basics.specs.Choice.{less}
 use Rattle.basics.proofs.Choice.{less-le}
@@ -17,8 +16,8 @@ use Rattle.block.proofs.Sizes.{length-filled}
 use Rattle.job.specs.Stream.{operations, schedule-length, stream-length}
 use Rattle.job.specs.Refusals.{exact-count, outside, most-operations, most-steps, bad-operations, bad-schedule-length}
 use Rattle.job.specs.File.{most-blocks, zeros, blocks, padded, file-of}
-use Rattle.job.proofs.Accepted.{Fine, Good-stream}
-use Rattle.job.proofs.Conditions.{or-both}
+use Rattle.job.proofs.Accepted.{Fine}
+use Rattle.job.proofs.Conditions.{or-both, next-left, none-left}
 use Rattle.job.proofs.Table.{exact-room}
 use Rattle.job.proofs.Pieces.{pieces, length-pieces}
 
@@ -54,17 +53,11 @@ length-payload-filled s i = length-filled (take payload-size (drop (payload-size
 module _ (s : List ℕ) {i n : ℕ} where
   pub blocks-next : i < n → blocks s i (n - i) ≡ block i (take payload-size (drop (payload-size * i) s)) ++ blocks s (i + 1) (n - (i + 1))
   unfolding blocks
-  blocks-next h = simp (left, add-one)
-    where
-      left : n - i ≡ suc (n - (i + 1))
-      left = omega arith
+  blocks-next h = simp (next-left h, add-one)
 
   pub blocks-end : n ≤ i → blocks s i (n - i) ≡ []
   unfolding blocks
-  blocks-end h = simp none
-    where
-      none : n - i ≡ zero
-      none = omega arith
+  blocks-end h = simp (none-left h)
 
 -- a stream in range wants no more blocks than a file may have
 pub fine-small : (s : List ℕ) → Fine s → exact-count s ≤ most-blocks

@@ -1,22 +1,22 @@
 -- Writing what is read: the stream of an accepted file is taken by the writer, and its file is that very file. Assumes nothing.
-use mathlib.Core.Path.{_≡_, refl, sym, ap, ap₂, subst, _∙_}
+use mathlib.Core.Path.{_≡_, sym, ap, ap₂, _∙_}
 use Prim.Native.Nat.{ℕ, _+_, _-_, _*_, _≤_, _<_}
 use native.Mathlib.Omega.{arith}
-use mathlib.Core.Bool.{true, false, not}
+use mathlib.Core.Bool.{true, not}
 use mathlib.Core.List.{List, _++_}
 use borrow.Author.Tests.{not-false}
 use lib.ListN.{length, take, drop, getD, replicate, length-replicate, getD-replicate, length-drop, take-append-drop}
 use lib.Seq.{take-all, getD-take, getD-drop, ext-getD, length-take-le}
 use Rattle.basics.specs.Bytes.{Bytes}
-use Rattle.basics.specs.Choice.{pick, same}
+use Rattle.basics.specs.Choice.{same}
 use Rattle.basics.specs.Maps.{at}
 use Rattle.basics.proofs.Bytes.{bytes-take, bytes-drop}
 use Rattle.basics.proofs.Choice.{same-equal, equal-same, pick-true}
-use Rattle.block.specs.Block.{block-size, payload-size, block, payload-of, block-refusal}
+use Rattle.block.specs.Block.{block-size, payload-size, block, payload-of}
 use Rattle.block.proofs.Accepted.{accepted-iff-made}
 use Rattle.job.specs.Stream.{stream-length}
 use Rattle.job.specs.Refusals.{exact-count, bad-padding}
-use Rattle.job.specs.File.{most-blocks, most-file, zeros, block-at, block-count, payloads, joined, blocks, padded, file-of, file-refusal, stream-of}
+use Rattle.job.specs.File.{most-blocks, most-file, zeros, block-at, block-count, joined, blocks, padded, file-of, file-refusal, stream-of}
 use Rattle.job.specs.Calls.{write-number, write-length, write-out}
 use Rattle.job.specs.RoundTrip.{Written-back}
 use Rattle.job.proofs.Accepted.{Good-file, Good-stream, accepted-good, good-written}
@@ -24,7 +24,7 @@ use Rattle.job.proofs.Alike.{Alike, fine-alike, stream-length-alike, ex
 use Rattle.job.proofs.Blocks.{payloads-are, length-payload-at, length-payloads, length-block-at, each-accepted}
 use Rattle.job.proofs.Conditions.{any-each}
 use Rattle.job.proofs.Padded.{blocks-are}
-use Rattle.job.proofs.Pieces.{pieces, pieces-alike, pieces-of, piece-at}
+use Rattle.job.proofs.Pieces.{pieces-alike, pieces-of, piece-at}
 use Rattle.job.proofs.Table.{exact-room}
 
 all-zeros : (l : List ℕ) → ((i : ℕ) → i < length l → getD l i 0 ≡ 0) → l ≡ zeros (length l)

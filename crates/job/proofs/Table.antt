@@ -1,10 +1,7 @@
 -- The table's conditions of a stream: their numbers, and what the exact count of blocks has room for. Assumes nothing.
-use mathlib.Core.Path.{_≡_, refl, sym, ap, _∙_}
-use mathlib.Core.Logic.{_≢_}
-use Prim.Native.Nat.{ℕ, _+_, _*_, _/_, _≤_, _<_}
+use Prim.Native.Nat.{ℕ, _+_, _*_, _≤_, _<_}
 use native.Mathlib.Omega.{arith}
 use mathlib.Core.List.{List}
-use lib.ListN.{length}
 use Rattle.block.specs.Block.{payload-size}
 use Rattle.job.specs.Stream.{stream-length}
 use Rattle.job.specs.Refusals.{exact-count, header-conditions, list-conditions}

@@ -1,16 +1,16 @@
 -- What the tests of the code say of the conditions of a stream. Assumes nothing.
-use mathlib.Core.Path.{_≡_, refl, sym, ap, _∙_}
+use mathlib.Core.Path.{_≡_, sym, ap, _∙_}
 use mathlib.Core.Logic.{_≢_}
-use Prim.Native.Nat.{ℕ, suc, _+_, _-_, _*_, _≤_, _<_}
+use Prim.Native.Nat.{ℕ, _+_, _-_, _*_, _≤_, _<_}
 use native.Mathlib.Omega.{arith}
-use mathlib.Core.Bool.{Bool, true, false, not, _||_, _&&_, or-true, or-false}
+use mathlib.Core.Bool.{Bool, true, false, not, or-true}
 use mathlib.Core.List.{List}
 use lib.Dec.{eqb}
 use lib.ListN.{length, getD}
-use Rattle.basics.specs.Choice.{same, less}
+use Rattle.basics.specs.Choice.{same}
 use Rattle.basics.specs.Maps.{at}
 use Rattle.basics.specs.Words.{word}
-use Rattle.basics.proofs.Choice.{lt-less, le-less, equal-same, unequal-same}
+use Rattle.basics.proofs.Choice.{lt-less, le-less, unequal-same}
 use Rattle.job.specs.Stream.{operations, process, processes, action, value, record-at, scheduled, stream-length}
 use Rattle.job.specs.Refusals.{any, outside, bad-record, bad-entry}
 

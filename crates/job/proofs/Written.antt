@@ -1,12 +1,12 @@
 -- Reading what is written: the file of a stream that the writer takes is accepted, and holds that stream. Assumes nothing.
-use mathlib.Core.Path.{_≡_, refl, sym, ap, ap₂, subst, _∙_}
+use mathlib.Core.Path.{_≡_, refl, sym, ap, subst, _∙_}
 use Prim.Native.Nat.{ℕ, _+_, _-_, _*_, _≤_, _<_}
 use native.Mathlib.Omega.{arith}
 use mathlib.Core.Bool.{true, false, not}
 use mathlib.Core.List.{List, _++_}
-use lib.ListN.{length, take, drop, getD, replicate, getD-replicate, List·getD-append}
+use lib.ListN.{length, take, drop, getD, getD-replicate, List·getD-append}
 use lib.Seq.{take-at, take-all, getD-append-add}
-use Rattle.basics.specs.Choice.{pick, same, less}
+use Rattle.basics.specs.Choice.{same, less}
 use Rattle.basics.specs.Maps.{at}
 use Rattle.basics.proofs.Choice.{equal-same, le-less, pick-true, pick-false}
 use Rattle.block.specs.Block.{block-size, payload-size, block, payload-of, block-refusal}

@@ -1,9 +1,9 @@
 -- Which condition of a joined stream decides: past each one that is not met, those behind it do. Assumes nothing.
-use mathlib.Core.Path.{_≡_, refl, sym, ap, _∙_}
+use mathlib.Core.Path.{_≡_, sym, ap, _∙_}
 use mathlib.Core.Logic.{_≢_}
 use Prim.Native.Nat.{ℕ, _*_, _≤_}
 use native.Mathlib.Omega.{arith}
-use mathlib.Core.Bool.{Bool, true, false, not}
+use mathlib.Core.Bool.{Bool, not}
 use mathlib.Core.List.{List, [], _∷_, _++_, append-assoc}
 use lib.ListN.{length}
 use Rattle.basics.specs.Choice.{same}
@@ -50,5 +50,5 @@ module _ (s : List ℕ) (n : ℕ) where
 pub count-has-room : (s : List ℕ) (n : ℕ) {k : ℕ} → k ≡ exact-count s → k ≡ n → length s ≡ payload-size * n → stream-length s ≤ length s
 unfolding payload-size
 count-has-room s n e h size =
-    let room : stream-length s ≤ 506 * exact-count s = exact-room s in
+    let room : stream-length s ≤ payload-size * exact-count s = exact-room s in
     omega arith

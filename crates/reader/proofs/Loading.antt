@@ -1,19 +1,17 @@
 -- What a load leaves: of a refused file nothing, of an accepted one its stream. Assumes nothing.
 use mathlib.Core.Path.{_≡_, refl, sym, ap, ap₂, _∙_}
 use mathlib.Core.Logic.{_≢_, _⊎_, inl, inr}
-use Prim.Native.Nat.{ℕ, _+_, _-_, _*_, _≤_, _<_}
+use Prim.Native.Nat.{ℕ, _*_, _≤_}
 use native.Mathlib.Omega.{arith}
 use mathlib.Core.Bool.{Bool, true, false}
-use mathlib.Core.List.{List, [], _++_}
+use mathlib.Core.List.{List, []}
 use lib.ListN.{length, take, drop}
 use lib.Seq.{take-at, take-take, length-take-le}
 use Rattle.basics.specs.Choice.{pick, same}
 use Rattle.basics.proofs.Choice.{both, pick-true, pick-false, same-equal, same-unequal, equal-same, unequal-same}
 use Rattle.memory.specs.Over.{over}
-use Rattle.memory.proofs.Over.{drop-more}
-use Rattle.block.specs.Block.{block-size, payload-size}
+use Rattle.block.specs.Block.{payload-size}
 use Rattle.job.specs.Stream.{stream-length}
-use Rattle.job.specs.Refusals.{exact-count}
 use Rattle.job.specs.File.{most-blocks, most-stream, joined, block-count, payloads, bad-length, bad-count, blocks-refusal, stream-refusal, file-refusal, stream-of}
 use Rattle.job.specs.declared.Reply.{Reply}
 use Rattle.job.proofs.Accepted.{Sized, Good-file, length-good, accepted-good, stream-decides}

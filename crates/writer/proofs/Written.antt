@@ -1,10 +1,8 @@
 -- What a write gives and leaves, refused and done. Assumes nothing.
-use mathlib.Core.Path.{_≡_, refl, sym, ap, _∙_}
+use mathlib.Core.Path.{_≡_, sym, _∙_}
 use mathlib.Core.Logic.{_≢_}
 use Prim.Native.Nat.{ℕ, _*_}
-use mathlib.Core.List.{List, _++_}
-use lib.ListN.{length, drop}
-use Rattle.basics.specs.Choice.{pick, same}
+use mathlib.Core.List.{List}
 use Rattle.basics.proofs.Choice.{pick-true, pick-false, equal-same, unequal-same}
 use Rattle.memory.specs.Over.{over}
 use Rattle.block.specs.Block.{block-size}

@@ -1,17 +1,17 @@
 -- `block::check` meets its contract: each test is one of the table's conditions. Assumes nothing.
-use mathlib.Core.Path.{_≡_, sym, ap, _∙_}
+use mathlib.Core.Path.{sym, ap, _∙_}
 use native.Mathlib.Omega.{arith}
 use borrow.Author.Needs.{needs}
 use lib.Seq.{length-take-le}
 use Rattle.block.specs.Block.{block-size, summed-size, payload-size}
 use Rattle.block.specs.declared.Sums.{Sums}
-use Rattle.block.proofs.Refusal.{Good, sum-a-differs, sum-b-differs, place-differs, good-accepted}
+use Rattle.block.proofs.Refusal.{sum-a-differs, sum-b-differs, place-differs, good-accepted}
 use Rattle.block.proofs.check.Statement.{statement}
 use Rattle.block.proofs.check.Tie as tie
 
 slice-aggregate-of : tie.Need-slice-aggregate-of
-unfolding block-size
-slice-aggregate-of c = sym (length-take-le 508 (c .before .before .args .b .now) (omega arith))
+unfolding block-size summed-size payload-size
+slice-aggregate-of c = sym (length-take-le summed-size (c .before .before .args .b .now) (omega arith))
 
 of-requires : tie.Need-of-requires
 of-requires c κs = search needs

@@ -1,5 +1,5 @@
 -- `block::give` meets its contract: a good block's payload is copied, and under a refusal nothing is. Assumes nothing.
-use mathlib.Core.Path.{_≡_, refl, sym, ap, _∙_}
+use mathlib.Core.Path.{sym, ap, _∙_}
 use Prim.Native.Nat.{ℕ}
 use mathlib.Core.List.{List}
 use Rattle.memory.specs.Over.{over}
@@ -8,9 +8,7 @@ use Rattle.block.specs.Block.{block-size, payload-size, payload-of}
 use Rattle.block.specs.Answer.{bytes-of}
 use Rattle.block.specs.declared.Answer.{Answer}
 use Rattle.block.proofs.Given.{refused-number, refused-bytes}
-use Prim.Native.Nat.{_-_}
-use lib.ListN.{length}
-use Rattle.block.specs.Block.{block-size, summed-size, payload-size, payload-of}
+use Rattle.block.specs.Block.{block-size, payload-size, payload-of}
 use borrow.Author.Needs.{needs}
 use native.Mathlib.Omega.{arith}
 use Rattle.block.proofs.give.Statement.{statement}
@@ -40,7 +38,7 @@ part-copy-end c = omega arith
 
 copy-requires : tie.Need-copy-requires
 unfolding block-size payload-size
-copy-requires c κs = omega (arith, length-part (c .before .before .before .before .before .before .before .args .b .now) 2 506 (omega arith))
+copy-requires c κs = omega (arith, length-part (c .before .before .before .before .before .before .before .args .b .now) 2 payload-size (omega arith))
 
 same-length : tie.Need-same-length
 same-length c = search needs

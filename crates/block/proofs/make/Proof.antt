@@ -1,11 +1,8 @@
 -- `block::make` meets its contract: number and payload, and their sums on the part behind them. Assumes nothing.
-use mathlib.Core.Path.{_≡_, refl, sym, ap, _∙_}
-use Prim.Native.Nat.{ℕ, _-_}
-use mathlib.Core.List.{List, _++_}
-use lib.ListN.{length, take, drop}
+use mathlib.Core.Path.{sym}
+use Prim.Native.Nat.{_-_}
+use lib.ListN.{length}
 use lib.Seq.{length-take-le}
-use Rattle.basics.specs.Words.{word-bytes}
-use Rattle.memory.specs.Over.{over}
 use Rattle.memory.proofs.Over.{length-part}
 use Rattle.block.specs.Block.{block-size, summed-size, payload-size}
 use Rattle.block.specs.Answer.{filled}
@@ -13,9 +10,9 @@ use Rattle.block.proofs.Sizes.{length-filled}
 use Rattle.block.proofs.Made.{block-over}
 use Prim.Native.Nat.{_-_}
 use lib.ListN.{length}
-use Rattle.memory.proofs.Over.{over-behind, length-part}
-use Rattle.block.specs.Block.{block-size, summed-size, payload-size, block, sums}
-use Rattle.block.proofs.Sizes.{length-filled, length-front}
+use Rattle.memory.proofs.Over.{length-part}
+use Rattle.block.specs.Block.{block-size, summed-size, payload-size}
+use Rattle.block.proofs.Sizes.{length-filled}
 use borrow.Author.Needs.{needs}
 use native.Mathlib.Omega.{arith}
 use Rattle.block.proofs.make.Statement.{statement}
@@ -30,8 +27,8 @@ unfolding block-size
 slice-reshare-prefix-of c = omega arith
 
 slice-aggregate-of : tie.Need-slice-aggregate-of
-unfolding block-size
-slice-aggregate-of c = sym (length-take-le 508 (c .before .before .before .put-front .last .0) (omega arith))
+unfolding block-size summed-size payload-size
+slice-aggregate-of c = sym (length-take-le summed-size (c .before .before .before .put-front .last .0) (omega arith))
 
 of-requires : tie.Need-of-requires
 of-requires c κs = search needs
@@ -48,10 +45,10 @@ part-put-sums-end : tie.Need-part-put-sums-end
 part-put-sums-end c = search needs
 
 put-sums-requires : tie.Need-put-sums-requires
-unfolding block-size
+unfolding block-size summed-size payload-size
 put-sums-requires c κs =
     let m = c .before .before .before .before .before .put-front .last .0 in
-    omega (arith, length-part m 508 (length m - 508) (omega arith))
+    omega (arith, length-part m summed-size (length m - summed-size) (omega arith))
 
 same-length : tie.Need-same-length
 same-length c = search needs

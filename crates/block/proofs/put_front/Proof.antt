@@ -7,8 +7,7 @@ use Rattle.memory.proofs.Over.{over-behind, length-part}
 use Rattle.block.specs.Block.{summed-size, payload-size}
 use Rattle.block.specs.Answer.{filled}
 use Rattle.block.proofs.Sizes.{length-filled}
-use lib.ListN.{length, drop, length-drop}
-use lib.Seq.{length-take-le}
+use lib.ListN.{length}
 use Rattle.memory.proofs.Over.{over-behind}
 use borrow.Author.Needs.{needs}
 use native.Mathlib.Omega.{arith}

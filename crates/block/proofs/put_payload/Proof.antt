@@ -6,8 +6,7 @@ use lib.ListN.{length, take, drop, replicate, length-replicate}
 use Rattle.memory.proofs.Over.{over-both, zeros-over, length-part}
 use Rattle.block.specs.Block.{payload-size}
 use Rattle.block.specs.Answer.{filled}
-use lib.ListN.{length, take, drop, replicate, length-replicate, length-drop}
-use lib.Seq.{length-take-le}
+use lib.ListN.{length, take, drop, replicate, length-replicate}
 use Rattle.memory.proofs.Over.{over-both, zeros-over}
 use borrow.Author.Needs.{needs}
 use native.Mathlib.Omega.{arith}
@@ -40,7 +39,7 @@ unfolding filled payload-size
 returns c =
     let p = c .before .before .before .before .before .before .before .before .before .before .args in
     let n : ℕ = length (p .payload .now) in
-    let k : ℕ = 506 - n in
+    let k : ℕ = payload-size - n in
     let m : List ℕ = c .before .before .before .before .before .before .copy .last .0 in
     let zeros : List ℕ = replicate k 0 in
     let size : length zeros ≡ k = length-replicate k 0 in

@@ -1,8 +1,7 @@
 -- `block::put_sums` meets its contract: one word, and the other on the part behind it. Assumes nothing.
-use mathlib.Core.Path.{_≡_, refl}
+use mathlib.Core.Path.{refl}
 use Rattle.basics.specs.Words.{word-bytes}
 use Rattle.memory.proofs.Over.{over-behind}
-use Rattle.memory.proofs.Over.{over-both}
 use borrow.Author.Needs.{needs}
 use native.Mathlib.Omega.{arith}
 use Rattle.block.proofs.put_sums.Statement.{statement}

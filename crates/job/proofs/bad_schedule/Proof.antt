@@ -1,9 +1,7 @@
 -- `job::bad_schedule` meets its contract. The loop's invariant: the entries that are left decide. The measure is their number.
 -- Assumes nothing.
-use mathlib.Core.Path.{_≡_, refl, sym, ap, _∙_}
-use Prim.Native.Nat.{ℕ, _+_, _-_, _≤_}
-use mathlib.Core.List.{List}
-use lib.ListN.{length}
+use mathlib.Core.Path.{_≡_, _∙_}
+use Prim.Native.Nat.{_-_, _≤_}
 use Rattle.job.specs.Stream.{stream-length}
 use Rattle.job.specs.Refusals.{any, bad-entry, bad-schedule}
 use Rattle.job.proofs.Conditions.{any-met, any-next, any-end}

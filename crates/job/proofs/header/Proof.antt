@@ -1,5 +1,5 @@
 -- `job::header` meets its contract: each test is a condition, in the table's order. Assumes nothing.
-use mathlib.Core.Path.{_≡_, refl, sym, ap, _∙_}
+use mathlib.Core.Path.{sym, ap, _∙_}
 use Rattle.basics.specs.Choice.{less}
 use Rattle.basics.specs.Maps.{at}
 use Rattle.basics.proofs.Choice.{lt-less, le-less}

@@ -1,5 +1,5 @@
 -- `job::lists` meets its contract: the records before the schedule. Assumes nothing.
-use mathlib.Core.Path.{_≡_, refl, sym, ap, _∙_}
+use mathlib.Core.Path.{sym, _∙_}
 use Rattle.job.specs.Refusals.{list-conditions}
 use Rattle.job.proofs.Conditions.{met-here, met-later, met-none}
 use borrow.Author.Needs.{needs}

@@ -1,9 +1,8 @@
 -- `reader::join` meets its contract. The loop's invariant: the blocks passed are joined, and those that are left decide. The
 -- measure is their number. Assumes nothing.
-use mathlib.Core.Path.{_≡_, refl, sym, ap, _∙_}
-use Prim.Native.Nat.{ℕ, _+_, _*_, _-_, _≤_}
-use mathlib.Core.List.{List}
-use lib.ListN.{length, drop}
+use mathlib.Core.Path.{sym, ap, _∙_}
+use Prim.Native.Nat.{_*_, _-_}
+use lib.ListN.{drop}
 use Rattle.block.specs.Block.{block-size, payload-size}
 use Rattle.block.proofs.Given.{refused-number}
 use Rattle.reader.proofs.Joining.{Joining, joining-none, joining-next, joining-behind, refused-decides, refused-keeps, all-accepted, all-joined}

@@ -1,13 +1,12 @@
 -- `reader::load` meets its contract: the file's length, its blocks, and then its stream decide. Assumes nothing.
-use mathlib.Core.Path.{_≡_, refl, sym, ap, _∙_}
+use mathlib.Core.Path.{_≡_, refl, sym, _∙_}
 use Prim.Native.Nat.{ℕ, _*_}
 use mathlib.Core.List.{List}
-use lib.ListN.{length}
 use lib.Seq.{length-take-le}
 use Rattle.memory.proofs.Over.{drop-more}
 use Rattle.block.specs.Block.{block-size, payload-size}
 use Rattle.job.specs.File.{most-blocks, most-stream, block-count, bad-length}
-use Rattle.job.proofs.Accepted.{Sized, length-good, length-decides, blocks-decide}
+use Rattle.job.proofs.Accepted.{length-good, length-decides, blocks-decide}
 use Rattle.reader.proofs.Loading.{refused-loaded, joined-loaded}
 use borrow.Author.Needs.{needs}
 use native.Mathlib.Omega.{arith}

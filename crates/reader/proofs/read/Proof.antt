@@ -1,8 +1,7 @@
 -- `reader::read` meets its contract: a load, and zeros behind what it left. Assumes nothing.
-use mathlib.Core.Path.{_≡_, refl, sym, ap, _∙_}
-use Prim.Native.Nat.{ℕ, _*_}
+use mathlib.Core.Path.{_∙_}
+use Prim.Native.Nat.{ℕ}
 use mathlib.Core.List.{List}
-use lib.ListN.{length}
 use Rattle.block.specs.Block.{payload-size}
 use Rattle.job.specs.File.{most-blocks, most-stream}
 use Rattle.reader.proofs.Left.{small-number, small-length, small-left, large-number, large-length, large-left}
@@ -27,14 +26,15 @@ load-requires c κs = omega arith
 
 sub-clear : tie.Need-sub-clear
 unfolding most-stream most-blocks payload-size
-sub-clear c = c .before .before .load .ensures .room
+sub-clear c = omega (arith, c .before .before .load .ensures .room)
 
 part-clear-start : tie.Need-part-clear-start
 unfolding most-stream most-blocks payload-size
-part-clear-start c = c .before .before .load .ensures .room
+part-clear-start c = omega (arith, c .before .before .load .ensures .room)
 
 part-clear-end : tie.Need-part-clear-end
-part-clear-end c = search needs
+unfolding most-stream most-blocks payload-size
+part-clear-end c = omega (arith, c .before .before .load .ensures .room)
 
 clear-requires : tie.Need-clear-requires
 clear-requires c κs = search needs

@@ -1,5 +1,5 @@
 -- `reader::refusal` meets its contract: the conditions in the table's order. Assumes nothing.
-use mathlib.Core.Path.{_≡_, refl, sym, ap, _∙_}
+use mathlib.Core.Path.{sym, _∙_}
 use mathlib.Core.List.{[]}
 use Rattle.block.specs.Block.{payload-size}
 use Rattle.job.proofs.Conditions.{met-here, met-later, met-none}

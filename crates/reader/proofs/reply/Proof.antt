@@ -1,6 +1,5 @@
 -- `reader::reply` meets its contract. Assumes nothing.
-use mathlib.Core.Path.{_≡_, refl, sym, ap, _∙_}
-use Rattle.basics.specs.Choice.{pick, same}
+use mathlib.Core.Path.{sym, _∙_}
 use Rattle.basics.proofs.Choice.{pick-true, pick-false, equal-same, unequal-same}
 use Rattle.block.specs.Block.{payload-size}
 use borrow.Author.Needs.{needs}

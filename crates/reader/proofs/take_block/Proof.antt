@@ -1,10 +1,10 @@
 -- `reader::take_block` meets its contract: the block's payload stands at the front of the part that is lent on. Assumes nothing.
-use mathlib.Core.Path.{_≡_, refl, sym, ap, _∙_}
-use Prim.Native.Nat.{ℕ, _+_, _*_, _-_, _≤_}
-use mathlib.Core.List.{List, _++_}
+use mathlib.Core.Path.{ap, _∙_}
+use Prim.Native.Nat.{ℕ, _*_, _-_, _≤_}
+use mathlib.Core.List.{List}
 use lib.ListN.{length, take, drop}
 use Rattle.memory.specs.Over.{over}
-use Rattle.memory.proofs.Over.{part-over, part-behind, length-part}
+use Rattle.memory.proofs.Over.{part-over, length-part}
 use Rattle.block.specs.Block.{block-size, payload-size, block-refusal}
 use Rattle.block.specs.Answer.{bytes-of}
 use Rattle.block.specs.declared.Answer.{Answer}

@@ -1,6 +1,6 @@
 -- `writer::put_block` meets its contract: the block stands at the front of the part that is lent on. Assumes nothing.
-use mathlib.Core.Path.{_≡_, refl, sym, ap, _∙_}
-use Prim.Native.Nat.{ℕ, _+_, _*_, _-_, _≤_}
+use mathlib.Core.Path.{_≡_, ap, _∙_}
+use Prim.Native.Nat.{ℕ, _*_, _-_}
 use mathlib.Core.List.{List}
 use lib.ListN.{length, take, drop, length-take}
 use Rattle.memory.specs.Over.{over}

@@ -1,7 +1,6 @@
 -- `writer::put_blocks` meets its contract. The loop's invariant: the blocks passed are laid. The measure is the number of those that
 -- are left. Assumes nothing.
-use mathlib.Core.Path.{_≡_, refl, sym, ap, _∙_}
-use Prim.Native.Nat.{ℕ, _-_}
+use Prim.Native.Nat.{_-_}
 use Rattle.block.specs.Block.{block-size}
 use Rattle.writer.proofs.Laying.{Laying, laying-none, block-begins, laying-next, laying-all}
 use native.Mathlib.Omega.{arith}

@@ -1,5 +1,4 @@
 -- `writer::refusal` meets its contract: the conditions in the table's order. Assumes nothing.
-use mathlib.Core.Path.{_≡_, refl, sym, ap, _∙_}
 use Rattle.block.specs.Block.{block-size}
 use Rattle.job.specs.File.{most-file, most-blocks}
 use Rattle.writer.proofs.Decided.{room-decides, past-room, short-decides, past-short, header-decides, past-header, length-decides, past-length}

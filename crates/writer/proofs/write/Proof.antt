@@ -1,5 +1,5 @@
 -- `writer::write` meets its contract: nothing is written before the number is known to be 0. Assumes nothing.
-use mathlib.Core.Path.{_≡_, refl, sym, ap, _∙_}
+use mathlib.Core.Path.{refl, sym, ap, _∙_}
 use mathlib.Core.Logic.{_≢_}
 use Prim.Native.Nat.{ℕ, _*_}
 use Rattle.block.specs.Block.{block-size}
