@@ -11,7 +11,7 @@ pub mod seen;
 use crate::job::Job;
 use crate::report;
 use crate::watch::Log;
-use facts::Facts;
+pub use facts::Facts;
 use parse::Report;
 pub use seen::Seen;
 
@@ -23,10 +23,9 @@ pub fn logged(job: &Job, memory: &mut [u8]) -> (Log, usize) {
 }
 
 /// Whether a report explains a run, with what was seen of it, or why not.
-pub fn explained(job: &Job, log: &Log, report: &[u8]) -> Result<Seen, String> {
+pub fn explained(job: &Job, log: &Log, facts: &Facts, report: &[u8]) -> Result<Seen, String> {
     let report = Report::of(report)?;
-    let facts = Facts::of(job, log)?;
-    explains::operations(job, &facts, &report)?;
-    explains::record(job, &facts, &report)?;
-    Ok(Seen::of(log, &facts, &report))
+    explains::operations(job, facts, &report)?;
+    explains::record(job, facts, &report)?;
+    Ok(Seen::of(log, facts, &report))
 }

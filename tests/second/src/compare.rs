@@ -184,15 +184,14 @@ impl Compare {
         let replayed = self.replay(file, ENOUGH);
         let mut memory = vec![0; REPORT];
         let (log, length) = check::logged(&job, &mut memory);
-        let own = check::explained(&job, &log, &memory[..length]);
-        let answer = replayed.map_err(|difference| {
-            let library = check::explained(&job, &log, self.changed_output());
-            format!(
-                "{difference}\n  the second replayer's report: {}\n  the library's report: {}",
-                verdict(&own),
-                verdict(&library)
-            )
-        })?;
+        let facts = check::Facts::of(&job, &log).map_err(|why| format!("{}{why}", said(&replayed)))?;
+        let own = check::explained(&job, &log, &facts, &memory[..length]);
+        if replayed.is_err() {
+            let library = check::explained(&job, &log, &facts, self.changed_output());
+            let (second, library) = (verdict(&own), verdict(&library));
+            return Err(format!("{}the second replayer's report {second}\n  the library's report {library}", said(&replayed)));
+        }
+        let answer = replayed?;
         ensure(answer.number == 0, || format!("the replay refuses the job: {answer:?}"))?;
         own.map_err(|why| format!("both sides agree, but the report does not explain the run: {why}"))
     }
@@ -204,9 +203,14 @@ impl Default for Compare {
     }
 }
 
-fn verdict<T>(result: &Result<T, String>) -> &str {
+/// The difference that a comparison found, as the head of a message.
+fn said(replayed: &Result<Answer, String>) -> String {
+    replayed.as_ref().err().map_or(String::new(), |difference| format!("{difference}\n  "))
+}
+
+fn verdict<T>(result: &Result<T, String>) -> String {
     match result {
-        Ok(_) => "explains the run",
-        Err(why) => why,
+        Ok(_) => "explains the run".to_string(),
+        Err(why) => format!("does not explain the run: {why}"),
     }
 }

@@ -33,7 +33,7 @@ fn report<O: Object>(job: &Job, machine: &Machine<O>, memory: &mut [u8]) -> usiz
 }
 
 /// A value in whole cm, half a cm upward.
-pub fn centimetres(record: &Record) -> u16 {
+fn centimetres(record: &Record) -> u16 {
     ((u32::from(job::value(record)) + 5) / 10) as u16
 }
 

@@ -3,9 +3,8 @@
 
 use super::facts::{Facts, Operation};
 use super::parse::{Effect, Ending, Line, Report};
-use crate::job::{self, Action, Job, Kind};
+use crate::job::{self, Action, Job, Kind, Record};
 use crate::machine::Answer;
-use crate::report::centimetres;
 use std::collections::VecDeque;
 
 fn ensure(holds: bool, otherwise: impl FnOnce() -> String) -> Result<(), String> {
@@ -29,6 +28,12 @@ pub fn operations(job: &Job, facts: &Facts, report: &Report) -> Result<(), Strin
         ensure(same, || format!("the line of operation {}: {line:?}", i + 1))?;
     }
     Ok(())
+}
+
+/// "In whole cm, half a cm upward."
+fn centimetres(record: &Record) -> u16 {
+    let value = job::value(record);
+    value / 10 + u16::from(value % 10 >= 5)
 }
 
 fn ending(job: &Job, own: &Operation) -> Ending {
