@@ -71,7 +71,6 @@ pub struct Machine<'a, O> {
     places: [Place; PROCESSES],
     /// By operation: its process's next one, or NONE.
     following: [u16; CELLS],
-    steps: u16,
 }
 
 impl<'a, O: Object> Machine<'a, O> {
@@ -85,7 +84,7 @@ impl<'a, O: Object> Machine<'a, O> {
         }
         let row = O::begin(Action::Put);
         let places = ahead.map(|operation| Place { operation, row, h: 0, t: 0, n: 0 });
-        let mut machine = Machine { object: O::fresh(), journal: Journal::fresh(), records, places, following, steps: 0 };
+        let mut machine = Machine { object: O::fresh(), journal: Journal::fresh(), records, places, following };
         for (place, &operation) in machine.places.iter_mut().zip(&ahead) {
             stand_before::<O>(place, operation, records);
         }
@@ -98,23 +97,24 @@ impl<'a, O: Object> Machine<'a, O> {
         (place.operation != NONE).then_some((place.operation, place.row))
     }
 
-    pub fn step(&mut self, process: u8, watch: &mut impl Watch) {
-        self.steps += 1;
+    /// Makes step number `step`, a step of `process`.
+    #[inline(always)]
+    pub fn step(&mut self, step: u16, process: u8, watch: &mut impl Watch) {
         let place = &mut self.places[usize::from(process)];
         if place.operation == NONE {
-            watch.step(self.steps, process, None);
+            watch.step(step, process, None);
             return;
         }
         let own = usize::from(place.operation);
-        watch.step(self.steps, process, Some((place.operation, place.row)));
+        watch.step(step, process, Some((place.operation, place.row)));
         if self.journal.first[own] == 0 {
-            self.journal.first[own] = self.steps;
+            self.journal.first[own] = step;
         }
-        match self.object.act(place, self.steps, &mut self.journal, watch) {
+        match self.object.act(place, step, &mut self.journal, watch) {
             Then::Go(row) => place.row = row,
             Then::End(answer) => {
                 watch.end(answer);
-                self.journal.last[own] = self.steps;
+                self.journal.last[own] = step;
                 self.journal.answer[own] = answer;
                 stand_before::<O>(place, self.following[own], self.records);
             }
@@ -133,8 +133,8 @@ fn stand_before<O: Object>(place: &mut Place, operation: u16, records: &[job::Re
 /// Runs a whole schedule.
 pub fn run<'a, O: Object>(job: &Job<'a>, watch: &mut impl Watch) -> Machine<'a, O> {
     let mut machine = Machine::fresh(job.records);
-    for &process in job.schedule {
-        machine.step(process, watch);
+    for (&process, step) in job.schedule.iter().zip(1..) {
+        machine.step(step, process, watch);
     }
     machine
 }

@@ -14,25 +14,30 @@ impl<'a> Text<'a> {
         self.length
     }
 
+    #[inline]
     pub fn words(&mut self, words: &str) {
         self.memory[self.length..][..words.len()].copy_from_slice(words.as_bytes());
         self.length += words.len();
     }
 
+    #[inline]
     pub fn number(&mut self, number: u16) {
-        let mut digits = [0; 5];
+        let end = self.length + digits(number);
         let mut rest = number;
-        let mut at = digits.len();
-        loop {
-            at -= 1;
-            digits[at] = b'0' + (rest % 10) as u8;
+        for digit in self.memory[self.length..end].iter_mut().rev() {
+            *digit = b'0' + (rest % 10) as u8;
             rest /= 10;
-            if rest == 0 {
-                break;
-            }
         }
-        let digits = &digits[at..];
-        self.memory[self.length..][..digits.len()].copy_from_slice(digits);
-        self.length += digits.len();
+        self.length = end;
+    }
+}
+
+fn digits(number: u16) -> usize {
+    match number {
+        0..10 => 1,
+        10..100 => 2,
+        100..1_000 => 3,
+        1_000..10_000 => 4,
+        10_000.. => 5,
     }
 }

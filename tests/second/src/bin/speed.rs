@@ -30,13 +30,13 @@ fn job(kind: u8, operations: usize, steps: usize, order: Order) -> Draft {
 fn acting<O: Object>(draft: &Draft) -> usize {
     let mut machine = Machine::<O>::fresh(&draft.records);
     let mut last = 0;
-    for (step, &process) in draft.schedule.iter().enumerate() {
+    for (&process, step) in draft.schedule.iter().zip(1..) {
         if machine.standing(process).is_some() {
-            last = step + 1;
+            last = step;
         }
-        machine.step(process, &mut Nobody);
+        machine.step(step, process, &mut Nobody);
     }
-    last
+    usize::from(last)
 }
 
 /// A job without the idle steps at its end.

@@ -149,7 +149,7 @@ fn gathered<O: Object>(draft: &Draft, steps: usize, walls: [bool; ROWS], random:
             _ => *random.pick(&running),
         };
         schedule.push(choice);
-        machine.step(choice, &mut Nobody);
+        machine.step(schedule.len() as u16, choice, &mut Nobody);
     }
     schedule
 }
