@@ -3,6 +3,8 @@
 
 pub mod explains;
 pub mod facts;
+pub mod listing;
+pub mod order;
 pub mod parse;
 pub mod seen;
 

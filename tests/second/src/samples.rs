@@ -140,7 +140,7 @@ pub fn flood_hour() -> Draft {
         }
     };
     let records = (0..OPERATIONS).map(record).collect();
-    let urn = [0, 1, 2, 3, 4, 5, 5, 5, 5, 6, 6, 6, 6, 7, 7];
+    let urn = [0, 0, 0, 0, 0, 1, 1, 1, 2, 2, 2, 2, 3, 4, 5, 5, 6, 6, 7];
     let schedule = (0..3_600).map(|_| *random.pick(&urn)).collect();
     Draft { kind: 1, processes: 8, records, schedule }
 }

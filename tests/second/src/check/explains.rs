@@ -64,18 +64,17 @@ fn allowed(job: &Job, lines: &[Line]) -> Result<Vec<u16>, String> {
     let mut contents = VecDeque::new();
     for Line { at, effect } in lines {
         let fits = match effect {
-            Effect::Put(item) if job.kind == Kind::Queue => {
-                contents.push_back(*item);
-                true
-            }
-            Effect::Put(item) => {
-                contents.push_front(*item);
-                true
-            }
-            Effect::Take(item, takers) => contents.pop_front() == Some(*item) && !takers.is_empty(),
+            Effect::Put(_) => true,
+            Effect::Take(item, takers) => contents.front() == Some(item) && !takers.is_empty(),
             Effect::Empty(_) => contents.is_empty(),
         };
-        ensure(fits, || format!("the line at {at} is not allowed: {effect:?}, contents {contents:?}"))?;
+        ensure(fits, || format!("the line at {at} is not allowed: {effect:?} on {contents:?}"))?;
+        match effect {
+            Effect::Put(item) if job.kind == Kind::Queue => contents.push_back(*item),
+            Effect::Put(item) => contents.push_front(*item),
+            Effect::Take(..) => drop(contents.pop_front()),
+            Effect::Empty(_) => {}
+        }
     }
     Ok(contents.into())
 }

@@ -1,6 +1,8 @@
 //! What the logged steps of a run say of each operation, and the shared memory after them. The log is taken step by step over a
-//! plain memory: every access must find what the steps before it left, and a set must change exactly when it finds its old value.
+//! plain memory and held against the listings, so that a log that passes is the run that document 01 describes.
 
+use super::listing::{self, Read};
+use super::order::Order;
 use crate::job::{self, Job, Kind};
 use crate::machine::{Answer, CELLS};
 use crate::watch::{Cell, Event, Log, Row};
@@ -17,23 +19,39 @@ pub struct Operation {
     pub change: Option<u16>,
     /// The item that a T5 or R3 was run for.
     pub joined: Option<u16>,
-    /// What the operation last read.
+    /// The row that comes next, once begun.
+    at: Option<Row>,
     read: Read,
-}
-
-/// The latest Head, Tail, Top and next that an operation read: h, t and n of document 01.
-#[derive(Clone, Copy, Default)]
-struct Read {
-    head: u16,
-    tail: u16,
-    top: u16,
-    next: u16,
 }
 
 impl Operation {
     /// "One that has not ended took effect exactly if it is a put whose changing step was made, or a stack take that is a member."
     pub fn took_effect(&self) -> bool {
         self.answer.is_some() || self.change.is_some() || self.joined.is_some()
+    }
+
+    fn note(&mut self, event: &Event) {
+        self.first.get_or_insert(event.step);
+        match event.row {
+            Row::T1 | Row::R1 => self.start = Some(event.step),
+            Row::Q3 | Row::P3 if event.wrote.is_some() => self.change = Some(event.step),
+            Row::T5 => self.joined = Some(self.read.next),
+            Row::R3 => self.joined = Some(self.read.top),
+            _ => {}
+        }
+        if event.answer.is_some() {
+            (self.last, self.answer) = (Some(event.step), event.answer);
+        }
+    }
+
+    fn keep(&mut self, event: &Event) {
+        match event.row {
+            Row::T1 => self.read.head = event.held,
+            Row::Q1 | Row::T2 => self.read.tail = event.held,
+            Row::P1 | Row::R1 => self.read.top = event.held,
+            Row::Q2 | Row::T3 => self.read.next = event.held,
+            _ => {}
+        }
     }
 }
 
@@ -55,6 +73,20 @@ impl Memory {
             Cell::Mark(node) => &mut self.mark[usize::from(node)],
         }
     }
+
+    /// The event's one access, on the memory as the steps before left it; whether it is what the listing says.
+    fn take(&mut self, event: &Event, read: Read) -> bool {
+        let below = self.next[usize::from(read.top)];
+        let found = *self.cell(event.cell);
+        let wrote = listing::set(event, read, below).and_then(|(from, to)| (found == from).then_some(to));
+        if let Some(value) = wrote {
+            *self.cell(event.cell) = value;
+            if event.row == Row::P3 {
+                *self.cell(Cell::Next(event.operation)) = read.top;
+            }
+        }
+        event.cell == listing::cell(event.row, read) && event.held == found && event.wrote == wrote
+    }
 }
 
 pub struct Facts {
@@ -72,74 +104,27 @@ impl Facts {
         let mut facts = Facts { operations, moved: [None; CELLS], memory };
         let mut order = Order::of(job);
         for event in &log.events {
-            order.take(job, event)?;
-            facts.touch(event)?;
-            facts.note(event);
+            if !order.take(job, event) || !facts.take(job, event) {
+                return Err(format!("the second replayer's steps are wrong: {event:?}"));
+            }
         }
-        order.finish(job)?;
-        Ok(facts)
+        if order.ended(job) { Ok(facts) } else { Err("the second replayer's steps end too soon".to_string()) }
     }
 
-    /// What the event's row sets its cell from and to; none for a read.
-    fn meant(&self, event: &Event) -> Option<(u16, u16)> {
-        let Read { head, tail, top, next } = self.operations[usize::from(event.operation)].read;
-        match event.row {
-            Row::Q3 => Some((0, event.operation)),
-            Row::Q4 => Some((tail, event.operation)),
-            Row::Q5 | Row::T4 => Some((tail, next)),
-            Row::T5 => Some((head, next)),
-            Row::P3 => Some((top, event.operation)),
-            Row::P4 | Row::R4 | Row::R5 => Some((top, self.memory.next[usize::from(top)])),
-            Row::R3 => Some((event.held, 1)),
-            _ => None,
-        }
-    }
-
-    /// The event's one access, on the memory as the steps before left it.
-    fn touch(&mut self, event: &Event) -> Result<(), String> {
-        let found = *self.memory.cell(event.cell);
-        let wrote = self.meant(event).and_then(|(from, to)| (found == from).then_some(to));
-        if found != event.held || wrote != event.wrote {
-            return Err(format!("the log is wrong: {event:?} found {found} and wrote {wrote:?}"));
-        }
-        if let Some(value) = event.wrote {
-            *self.memory.cell(event.cell) = value;
-        }
-        if event.row == Row::P3 && event.wrote.is_some() {
-            *self.memory.cell(Cell::Next(event.operation)) = event.held;
-        }
-        Ok(())
-    }
-
-    fn note(&mut self, event: &Event) {
+    /// Takes one step; gives whether it is what the listing says.
+    fn take(&mut self, job: &Job, event: &Event) -> bool {
         let own = &mut self.operations[usize::from(event.operation)];
-        own.first.get_or_insert(event.step);
-        let changed = event.wrote.is_some();
-        match event.row {
-            Row::T1 | Row::R1 => own.start = Some(event.step),
-            Row::Q3 | Row::P3 if changed => own.change = Some(event.step),
-            Row::T5 => {
-                own.joined = Some(own.read.next);
-                if changed {
-                    self.moved[usize::from(own.read.next)].get_or_insert(event.step);
-                }
-            }
-            Row::R3 => {
-                let Cell::Mark(item) = event.cell else { unreachable!("R3 raises a mark") };
-                own.joined = Some(item);
-            }
-            _ => {}
+        let action = job::action(&job.records[usize::from(event.operation) - 1]);
+        let row = own.at.unwrap_or(listing::first(job.kind, action));
+        let right = event.row == row && self.memory.take(event, own.read);
+        let after = listing::after(event, own.read);
+        own.at = after.ok();
+        own.note(event);
+        own.keep(event);
+        if event.row == Row::T5 && event.wrote.is_some() {
+            self.moved[usize::from(own.read.next)].get_or_insert(event.step);
         }
-        match event.cell {
-            Cell::Head => own.read.head = event.held,
-            Cell::Tail => own.read.tail = event.held,
-            Cell::Top => own.read.top = event.held,
-            Cell::Next(_) => own.read.next = event.held,
-            Cell::Mark(_) => {}
-        }
-        if event.answer.is_some() {
-            (own.last, own.answer) = (Some(event.step), event.answer);
-        }
+        right && event.answer == after.err()
     }
 
     /// What is left, read from the shared memory after the last step; none if the nexts run in a circle.
@@ -160,46 +145,4 @@ impl Facts {
         }
         None
     }
-}
-
-/// The order of the log: steps ascend, each is its scheduled process's, and each process does its operations in list order.
-struct Order {
-    /// The steps walked so far.
-    walked: usize,
-    /// By process: the operation it is at, or the next one it will begin; 0 when none is left.
-    at: Vec<u16>,
-}
-
-impl Order {
-    fn of(job: &Job) -> Order {
-        let at = (0..job.processes).map(|process| next_of(job, process, 0)).collect();
-        Order { walked: 0, at }
-    }
-
-    fn take(&mut self, job: &Job, event: &Event) -> Result<(), String> {
-        let step = usize::from(event.step);
-        let skipped = job.schedule.get(self.walked..step - 1).unwrap_or(&[]);
-        let idle = skipped.iter().all(|&process| self.at[usize::from(process)] == 0);
-        let at = &mut self.at[usize::from(event.process)];
-        let scheduled = step > self.walked && job.schedule[step - 1] == event.process;
-        if !idle || !scheduled || *at != event.operation {
-            return Err(format!("the log is out of order: {event:?}"));
-        }
-        self.walked = step;
-        if event.answer.is_some() {
-            *at = next_of(job, event.process, usize::from(event.operation));
-        }
-        Ok(())
-    }
-
-    fn finish(&self, job: &Job) -> Result<(), String> {
-        let idle = job.schedule[self.walked..].iter().all(|&process| self.at[usize::from(process)] == 0);
-        if idle { Ok(()) } else { Err("the log ends before the schedule".to_string()) }
-    }
-}
-
-/// The next operation of a process after operation `after`, or 0.
-fn next_of(job: &Job, process: u8, after: usize) -> u16 {
-    let rest = job.records[after..].iter();
-    rest.map(job::process).position(|owner| owner == process).map_or(0, |ahead| (after + ahead + 1) as u16)
 }
