@@ -1,12 +1,13 @@
 // The report of a finished run, from the arrays that it leaves.
 use job::Kind;
+use job::operations;
+use job::schedule_length;
 use lines::empty_line;
 use lines::left_line;
 use lines::object_line;
 use lines::operation_line;
 use lines::put_line;
 use lines::take_line;
-use lines::word_at;
 use machine::Operation;
 use machine::Step;
 ghost use mathlib.Core.Path.{_≡_};
@@ -18,11 +19,11 @@ ghost use Rattle.job.specs.Stream.{stream-length};
 ghost use Rattle.job.specs.Job.{job-of};
 ghost use Rattle.machine.specs.Run.{state-after};
 ghost use Rattle.machine.specs.Journal.{note};
-ghost use Rattle.machine.specs.Record.{line-at, lines-to, the-record};
+ghost use Rattle.machine.specs.Record.{line-at, lines-to};
 ghost use Rattle.machine.specs.Left.{left};
 ghost use Rattle.machine.specs.Explained as Explained;
 ghost use Rattle.machine.specs.Report.{operation-line, operation-lines, record-lines, left-line, report};
-ghost use Rattle.report.specs.Holds.{Column, Holds, HoldsAnswers, HoldsEffects, Remembers, first-node, Reported};
+ghost use Rattle.report.specs.Holds.{MadeBy, Column, Holds, HoldsAnswers, HoldsEffects, Remembers, first-node, Reported};
 
 // The object of a job.
 pub fn object_of(stream: &[u8]) -> Kind
@@ -34,22 +35,6 @@ pub fn object_of(stream: &[u8]) -> Kind
     } else {
         Kind::Stack
     }
-}
-
-// The number of a job's operations.
-fn count_of(stream: &[u8]) -> u16
-    requires { ⌜ stream-length (now stream) ≤ length (now stream) ⌝ }
-    ensures { λ r. ⌜ r ≡ job-of (now (stream .entry)) .count ⌝ }
-{
-    word_at(stream, 2)
-}
-
-// The number of a job's steps.
-fn steps_of(stream: &[u8]) -> u16
-    requires { ⌜ stream-length (now stream) ≤ length (now stream) ⌝ }
-    ensures { λ r. ⌜ r ≡ job-of (now (stream .entry)) .steps ⌝ }
-{
-    word_at(stream, 4)
 }
 
 // The line of an operation, by the arrays.
@@ -120,8 +105,7 @@ fn step_line(
     s: Step,
     o: Operation,
 ) -> usize
-    requires { ⌜ (count ≡ job-of (now stream) .count) × Explained.Operation (job-of (now stream)) (o .0) × (note (job-of (now stream)) (s .0) .by ≡ o .0) ⌝ }
-    requires { ⌜ HoldsEffects (job-of (now stream)) (job-of (now stream) .steps) (now last) (now start) (now link) (now taken) (now stands) ⌝ }
+    requires { ⌜ MadeBy (job-of (now stream)) count (s .0) (o .0) × HoldsEffects (job-of (now stream)) (job-of (now stream) .steps) (now last) (now start) (now link) (now taken) (now stands) ⌝ }
     requires { ⌜ at + length (record-lines (line-at (job-of (now stream)) (job-of (now stream) .steps) (s .0))) ≤ length (now out) ⌝ }
     ensures { λ r. ⌜ Wrote (now (out .entry)) (now (out .exit)) at r (record-lines (line-at (job-of (now (stream .entry))) (job-of (now (stream .entry)) .steps) (s .0))) ⌝ }
 {
@@ -140,13 +124,12 @@ fn step_line(
         }
         return take_line(out, at, s, taken, count, Operation(item));
     }
-    if last[i] == 0 {
-        return at;
+    if last[i] != 0 {
+        if start[i] == s.0 {
+            return empty_line(out, at, s, o);
+        }
     }
-    if start[i] != s.0 {
-        return at;
-    }
-    empty_line(out, at, s, o)
+    at
 }
 
 // The record, in step order.
@@ -172,10 +155,11 @@ fn record_lines(
     let mut s: u16 = 0;
     while s < steps {
         s += 1;
-        let o = by[s as usize];
-        if o == 0 {
+        let o = Operation(by[s as usize]);
+        if o.0 == 0 {
             continue;
         }
+        let step = Step(s);
         place = step_line(
             out,
             place,
@@ -186,8 +170,8 @@ fn record_lines(
             taken,
             stands,
             count,
-            Step(s),
-            Operation(o),
+            step,
+            o,
         );
     }
     place
@@ -247,13 +231,13 @@ pub fn write_report(
     ensures { λ r. ⌜ Reported (now (out .entry)) (now (out .exit)) r (report (job-of (now (stream .entry)))) ⌝ }
 {
     let object = object_of(stream);
-    let count = count_of(stream);
-    let steps = steps_of(stream);
-    let place = object_line(out, 0, object);
-    let place = operation_lines(out, place, stream, first, last, link, taken, count);
-    let place = record_lines(
+    let count = operations(stream);
+    let steps = schedule_length(stream);
+    let at = object_line(out, 0, object);
+    let at = operation_lines(out, at, stream, first, last, link, taken, count);
+    let at = record_lines(
         out,
-        place,
+        at,
         stream,
         last,
         start,
@@ -264,5 +248,5 @@ pub fn write_report(
         count,
         steps,
     );
-    left_of(out, place, stream, object, next, mark, head, top, count)
+    left_of(out, at, stream, object, next, mark, head, top, count)
 }
