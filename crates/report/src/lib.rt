@@ -91,7 +91,7 @@ fn operation_lines(
     place
 }
 
-// The line of a step, if there is one: the effect of the operation that made it, by the arrays.
+// The effect of the operation that made a step, if it stands there, by the arrays.
 fn step_line(
     out: &mut [u8],
     at: usize,
@@ -132,6 +132,44 @@ fn step_line(
     at
 }
 
+// The line of a step, if there is one: none of an idle step.
+fn line_at(
+    out: &mut [u8],
+    at: usize,
+    stream: &[u8],
+    last: &[u16],
+    start: &[u16],
+    link: &[u16],
+    taken: &[u16],
+    stands: &[u16],
+    by: &[u16],
+    count: u16,
+    s: Step,
+) -> usize
+    requires { ⌜ (count ≡ job-of (now stream) .count) × Column 1 (job-of (now stream) .steps) (now by) (λ s. note (job-of (now stream)) s .by) × (1 ≤ s .0) × (s .0 ≤ job-of (now stream) .steps) ⌝ }
+    requires { ⌜ HoldsEffects (job-of (now stream)) (job-of (now stream) .steps) (now last) (now start) (now link) (now taken) (now stands) ⌝ }
+    requires { ⌜ at + length (record-lines (line-at (job-of (now stream)) (job-of (now stream) .steps) (s .0))) ≤ length (now out) ⌝ }
+    ensures { λ r. ⌜ Wrote (now (out .entry)) (now (out .exit)) at r (record-lines (line-at (job-of (now (stream .entry))) (job-of (now (stream .entry)) .steps) (s .0))) ⌝ }
+{
+    let o = by[s.0 as usize];
+    if o == 0 {
+        return at;
+    }
+    step_line(
+        out,
+        at,
+        stream,
+        last,
+        start,
+        link,
+        taken,
+        stands,
+        count,
+        s,
+        Operation(o),
+    )
+}
+
 // The record, in step order.
 fn record_lines(
     out: &mut [u8],
@@ -146,7 +184,7 @@ fn record_lines(
     count: u16,
     steps: u16,
 ) -> usize
-    requires { ⌜ (count ≡ job-of (now stream) .count) × (steps ≡ job-of (now stream) .steps) × Column 1 steps (now by) (λ s. note (job-of (now stream)) s .by) ⌝ }
+    requires { ⌜ (count ≡ job-of (now stream) .count) × (steps ≡ job-of (now stream) .steps) × Column 1 (job-of (now stream) .steps) (now by) (λ s. note (job-of (now stream)) s .by) ⌝ }
     requires { ⌜ HoldsEffects (job-of (now stream)) (job-of (now stream) .steps) (now last) (now start) (now link) (now taken) (now stands) ⌝ }
     requires { ⌜ at + length (record-lines (lines-to (job-of (now stream)) (job-of (now stream) .steps) steps)) ≤ length (now out) ⌝ }
     ensures { λ r. ⌜ Wrote (now (out .entry)) (now (out .exit)) at r (record-lines (lines-to (job-of (now (stream .entry))) (job-of (now (stream .entry)) .steps) steps)) ⌝ }
@@ -155,12 +193,7 @@ fn record_lines(
     let mut s: u16 = 0;
     while s < steps {
         s += 1;
-        let o = Operation(by[s as usize]);
-        if o.0 == 0 {
-            continue;
-        }
-        let step = Step(s);
-        place = step_line(
+        place = line_at(
             out,
             place,
             stream,
@@ -169,9 +202,9 @@ fn record_lines(
             link,
             taken,
             stands,
+            by,
             count,
-            step,
-            o,
+            Step(s),
         );
     }
     place
@@ -232,7 +265,6 @@ pub fn write_report(
 {
     let object = object_of(stream);
     let count = operations(stream);
-    let steps = schedule_length(stream);
     let at = object_line(out, 0, object);
     let at = operation_lines(out, at, stream, first, last, link, taken, count);
     let at = record_lines(
@@ -246,7 +278,7 @@ pub fn write_report(
         stands,
         by,
         count,
-        steps,
+        schedule_length(stream),
     );
     left_of(out, at, stream, object, next, mark, head, top, count)
 }

@@ -1,14 +1,13 @@
 -- `report::record_lines` meets its contract. The loop's invariant: the lines of the steps up to `s` are written. The measure is how many
 -- steps are left. Assumes nothing.
 use mathlib.Core.Path.{ap}
-use Prim.Native.Nat.{_+_, _-_}
+use Prim.Native.Nat.{_-_}
 use native.Mathlib.Omega.{arith}
 use lib.ListN.{length}
-use Rattle.basics.specs.Maps.{at}
 use Rattle.job.specs.Job.{job-of}
 use Rattle.text.proofs.Laid.{wrote-as}
-use Rattle.text.proofs.Each.{Written, written-none, written-room, written-more, written-same, written-all}
-use Rattle.report.proofs.Steps.{step-text, record-is-each, maker-held, idle-text}
+use Rattle.text.proofs.Each.{Written, written-none, written-room, written-more, written-all}
+use Rattle.report.proofs.Steps.{step-text, record-is-each}
 use Rattle.report.proofs.record_lines.Statement.{statement}
 use Rattle.report.proofs.record_lines.Tie as tie
 
@@ -28,41 +27,18 @@ loop-holds c =
 add-s : tie.Need-add-s Inv-loop μ-loop
 add-s c = omega arith
 
-cast-t17 : tie.Need-cast-t17 Inv-loop μ-loop
-cast-t17 c = omega (arith, c .before .before .before .before .before .before .before .before .before .before .pre .0 .2 .long)
-
-mul-t18 : tie.Need-mul-t18 Inv-loop μ-loop
-mul-t18 c = omega (arith, c .before .before .before .before .before .before .before .before .before .before .pre .0 .2 .long)
-
-shared-slice-read-t20 : tie.Need-shared-slice-read-t20 Inv-loop μ-loop
-shared-slice-read-t20 c = omega (arith, c .before .before .before .before .before .before .before .before .before .before .before .pre .0 .2 .long)
+line-at-requires : tie.Need-line-at-requires Inv-loop μ-loop
+line-at-requires c κs =
+    let start = c .before .before .before .before .before .before .before .before .before .before .before in
+    let job = job-of (start .args .stream .now) in
+    let room = written-room (c .before .before .loop .inv) (c .before .loop-test .taken) in
+    ((start .pre .0 .0, start .pre .0 .2, omega arith, omega (arith, start .pre .0 .1)), (start .pre .1 .0, room))
 
 loop-less : tie.Need-loop-less Inv-loop μ-loop
 loop-less c = omega arith
 
 loop-again : tie.Need-loop-again Inv-loop μ-loop
-unfolding at
-loop-again c =
-    let start = c .before .before .before .before .before .before .before .before .before .before .before .before .before in
-    let job = job-of (start .args .stream .now) in
-    let s = c .before .before .before .before .loop .s + 1 in
-    let nothing = idle-text job (start .pre .0 .2) s (omega arith) (omega arith) (job .steps) (omega (arith, start .pre .0 .1)) (c .if1 .taken) in
-    written-same (c .before .before .before .before .loop .inv) (c .before .before .before .loop-test .taken) nothing
-
-step-line-requires : tie.Need-step-line-requires Inv-loop μ-loop
-unfolding at
-step-line-requires c κs =
-    let start = c .before .before .before .before .before .before .before .before .before .before .before .before .before .before in
-    let job = job-of (start .args .stream .now) in
-    let s = c .before .before .before .before .before .loop .s + 1 in
-    let made-by = maker-held job (start .pre .0 .2) s (omega arith) (omega arith) (start .pre .0 .0) (c .before .if1 .left) in
-    ((made-by, start .pre .1 .0), written-room (c .before .before .before .before .before .loop .inv) (c .before .before .before .before .loop-test .taken))
-
-loop-less-2 : tie.Need-loop-less-2 Inv-loop μ-loop
-loop-less-2 c = omega arith
-
-loop-again-2 : tie.Need-loop-again-2 Inv-loop μ-loop
-loop-again-2 c = written-more (c .before .before .before .before .before .before .before .before .loop .inv) (c .before .before .before .before .before .before .before .loop-test .taken) (c .before .before .step-line .ensures)
+loop-again c = written-more (c .before .before .before .before .before .loop .inv) (c .before .before .before .before .loop-test .taken) (c .before .before .line-at .ensures)
 
 same-length : tie.Need-same-length Inv-loop μ-loop
 same-length c = c .before .loop .inv .wrote .as-long
@@ -81,13 +57,8 @@ record-lines-spec =
     μ-loop
     loop-holds
     add-s
-    cast-t17
-    mul-t18
-    shared-slice-read-t20
+    line-at-requires
     loop-less
     loop-again
-    step-line-requires
-    loop-less-2
-    loop-again-2
     same-length
     returns)
