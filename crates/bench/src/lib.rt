@@ -3,6 +3,8 @@ use job::Reply;
 ghost use mathlib.Core.Path.{_≡_};
 ghost use Prim.Native.Nat.{_<_, _^_};
 ghost use Rattle.job.specs.Calls.{read-number, read-length, read-work, write-number, write-length, write-out};
+ghost use Rattle.machine.specs.Explained.{Explained};
+ghost use Rattle.replayer.specs.Replay.{job-in, replay-number, replay-length, replay-report, replay-work};
 ghost use Rattle.bench.specs.Packed.{packed};
 
 // A reply as one number.
@@ -11,6 +13,17 @@ fn pack(r: Reply) -> u64
     ensures { λ n. ⌜ n ≡ packed (r .number) (r .length) ⌝ }
 {
     (r.number as u64) * 4294967296 + r.length as u64
+}
+
+// Replays the job in a file: the report's length, and the report in the report memory.
+#[no_mangle]
+pub extern "C" fn bench_replay(file: &[u8], work: &mut [u8], report: &mut [u8]) -> u64
+    ensures answer { λ r. ⌜ r ≡ packed (replay-number (now (file .entry)) (now (work .entry)) (now (report .entry))) (replay-length (now (file .entry)) (now (work .entry)) (now (report .entry))) ⌝ }
+    ensures report { λ r. ⌜ now (report .exit) ≡ replay-report (now (file .entry)) (now (work .entry)) (now (report .entry)) ⌝ }
+    ensures work { λ r. ⌜ now (work .exit) ≡ replay-work (now (file .entry)) (now (work .entry)) (now (report .entry)) ⌝ }
+    ensures explained { λ r. ⌜ (replay-number (now (file .entry)) (now (work .entry)) (now (report .entry)) ≡ 0 → Explained (job-in (now (file .entry))) (job-in (now (file .entry)) .steps)) ⌝ }
+{
+    pack(replayer::replay(file, work, report))
 }
 
 // Reads a job file into the work memory: L, and the stream and zeros in the first 17,710 work bytes.

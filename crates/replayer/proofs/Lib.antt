@@ -4,3 +4,4 @@ pub mod Told
 pub mod Ready
 pub mod Cleared
 pub mod Replied
+pub mod Short

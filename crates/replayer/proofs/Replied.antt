@@ -19,7 +19,7 @@ use Rattle.machine.proofs.Theorem.{explained}
 use Rattle.text.specs.Laid.{laid}
 use Rattle.report.specs.Holds.{Reported}
 use Rattle.replayer.specs.Ready.{Ready}
-use Rattle.replayer.proofs.Stream.{at-stream, job-of-stream, ready, stream-fits}
+use Rattle.replayer.proofs.Stream.{filled, filled-long, filled-ready, filled-job}
 use Rattle.replayer.specs.Replay.{least-report, small-memory, job-in, report-of, replay-number, replay-length, replay-report, replay-work}
 
 -- what a replay says and leaves
@@ -90,35 +90,23 @@ module _ (file work out : List ℕ) where
       unfolding read-number
       file-accepted = sym (pick-else _ _ not-small) ∙ accepted
 
-      -- the stream and the zeros behind it
-      filled : List ℕ
-      filled = stream-of file ++ zeros (most-stream - length (stream-of file))
-
-      length-filled : length filled ≡ most-stream
-      unfolding filled zeros
-      length-filled =
-          length-append (stream-of file) (replicate (most-stream - length (stream-of file)) 0)
-          ∙ ap (λ n. length (stream-of file) + n) (length-replicate (most-stream - length (stream-of file)) 0)
-          ∙ (let h : length (stream-of file) ≤ most-stream = stream-fits file file-accepted in omega arith)
-
       -- the work memory after the read
-      work-read : read-work file work ≡ filled ++ drop most-stream work
+      work-read : read-work file work ≡ filled file ++ drop most-stream work
       unfolding read-work held filled
       work-read = pick-else _ _ not-small ∙ ap (λ b. held b work) (pick-then _ _ (equal-same file-accepted))
 
-      front-read : take most-stream (read-work file work) ≡ filled
-      front-read = ap (take most-stream) work-read ∙ take-at filled (drop most-stream work) most-stream length-filled
+      front-read : take most-stream (read-work file work) ≡ filled file
+      front-read = ap (take most-stream) work-read ∙ take-at (filled file) (drop most-stream work) most-stream (filled-long file file-accepted)
 
       back-read : drop most-stream (read-work file work) ≡ drop most-stream work
-      back-read = ap (drop most-stream) work-read ∙ drop-at filled (drop most-stream work) most-stream length-filled
+      back-read = ap (drop most-stream) work-read ∙ drop-at (filled file) (drop most-stream work) most-stream (filled-long file file-accepted)
 
       read-ready : Ready (take most-stream (read-work file work))
-      unfolding filled
-      read-ready = subst Ready (sym front-read) (ready file file-accepted filled (at-stream file file-accepted _) length-filled)
+      read-ready = subst Ready (sym front-read) (filled-ready file file-accepted)
 
       read-job : job-of (take most-stream (read-work file work)) ≡ job-in file
-      unfolding filled job-in
-      read-job = ap job-of front-read ∙ job-of-stream file file-accepted _
+      unfolding job-in
+      read-job = ap job-of front-read ∙ filled-job file file-accepted
 
       -- the work memory after the read, and the report memory, are what the job needs
       pub held-ready : (work₁ : List ℕ) → work₁ ≡ read-work file work → length work₁ ≡ length work → (most-stream ≤ length work₁) × Ready (take most-stream work₁) × (least-report ≤ length out)

@@ -6,7 +6,7 @@ use Prim.Native.Nat.{ℕ, zero, suc, _+_, _-_, _*_, _≤_, _<_, min}
 use native.Mathlib.Omega.{arith}
 use mathlib.Core.Bool.{Bool, true, false, not, true≢false}
 use mathlib.Core.List.{List, [], _∷_, _++_}
-use lib.ListN.{length, getD, take, replicate, length-take, List·getD-eq-default}
+use lib.ListN.{length, getD, take, replicate, length-append, length-replicate, length-take, List·getD-eq-default}
 use lib.Seq.{getD-take}
 use Rattle.basics.specs.Choice.{pick, same, less}
 use Rattle.basics.specs.Maps.{at}
@@ -96,6 +96,10 @@ inside : (low high n : ℕ) → outside low high n ≡ false → n ≤ high
 unfolding outside
 inside low high n e = less-le (or-both (less n low) (less high n) e .1)
 
+-- a file's stream, with zeros behind it up to the length of the longest
+unfoldable pub filled : List ℕ → List ℕ
+filled file = stream-of file ++ zeros (most-stream - length (stream-of file))
+
 module _ (file : List ℕ) (accepted : file-refusal file ≡ 0) where
   good : Good-file file
   good = accepted-good file accepted
@@ -114,17 +118,18 @@ module _ (file : List ℕ) (accepted : file-refusal file ≡ 0) where
   padding-zero i (inr there) h = padding-byte i h there
 
   -- the stream, with zeros behind it, is read as the joined payloads are
-  pub at-stream : (n : ℕ) → at (stream-of file ++ zeros n) ≡ at (joined file)
-  unfolding stream-of
-  at-stream n =
-      at-zeros (take (stream-length (joined file)) (joined file)) n
+  pub at-filled : at (filled file) ≡ at (joined file)
+  unfolding filled stream-of
+  at-filled =
+      at-zeros (take (stream-length (joined file)) (joined file)) _
       ∙ at-cut (joined file) (stream-length (joined file)) (λ i h. padding-zero i (compare (length (joined file)) i) h)
 
   -- its job is the file's
-  pub job-of-stream : (n : ℕ) → job-of (stream-of file ++ zeros n) ≡ job-of (stream-of file)
-  job-of-stream n = same-job _ _ (at-zeros (stream-of file) n)
+  pub filled-job : job-of (filled file) ≡ job-of (stream-of file)
+  unfolding filled
+  filled-job = same-job _ _ (at-zeros (stream-of file) _)
 
-  -- and it is ready
+  -- every entry of its schedule is one of eight processes
   joined-entry : (k : ℕ) → 1 ≤ k → k ≤ schedule-length (joined file) → scheduled (joined file) k < most-processes
   unfolding bad-schedule bad-entry bad-processes
   joined-entry k low high =
@@ -136,20 +141,6 @@ module _ (file : List ℕ) (accepted : file-refusal file ≡ 0) where
       in
       omega arith
 
-  pub ready : (s : List ℕ) → at s ≡ at (joined file) → length s ≡ most-stream → Ready s
-  unfolding operations schedule-length scheduled word bad-operations bad-schedule-length
-  ready s e long =
-      record {
-        few =
-            subst (λ f. 256 * f 2 + f 3 ≤ most-operations) (sym e)
-            (inside 1 most-operations (operations (joined file)) (good .fine .operations));
-        short = subst (λ f. 256 * f 4 + f 5 ≤ most-steps) (sym e) (less-le (good .fine .steps));
-        long = long;
-        in-range =
-            subst (λ f. (k : ℕ) → 1 ≤ k → k ≤ 256 * f 4 + f 5 → f (5 + 4 * (256 * f 2 + f 3) + k) < most-processes) (sym e)
-            joined-entry;
-      }
-
   -- the stream fits its part of the work memory
   pub stream-fits : length (stream-of file) ≤ most-stream
   unfolding stream-of payload-size most-stream most-blocks
@@ -158,3 +149,24 @@ module _ (file : List ℕ) (accepted : file-refusal file ≡ 0) where
       let few : exact-count (joined file) ≤ 35 = fine-small (joined file) (good .fine) in
       let cut : length (take (stream-length (joined file)) (joined file)) ≡ min (stream-length (joined file)) (length (joined file)) = length-take (stream-length (joined file)) (joined file) in
       omega arith
+
+  pub filled-long : length (filled file) ≡ most-stream
+  unfolding filled zeros
+  filled-long =
+      length-append (stream-of file) (replicate (most-stream - length (stream-of file)) 0)
+      ∙ ap (λ n. length (stream-of file) + n) (length-replicate (most-stream - length (stream-of file)) 0)
+      ∙ (let h : length (stream-of file) ≤ most-stream = stream-fits in omega arith)
+
+  pub filled-ready : Ready (filled file)
+  unfolding operations schedule-length scheduled word bad-operations bad-schedule-length
+  filled-ready =
+      record {
+        few =
+            subst (λ f. 256 * f 2 + f 3 ≤ most-operations) (sym at-filled)
+            (inside 1 most-operations (operations (joined file)) (good .fine .operations));
+        short = subst (λ f. 256 * f 4 + f 5 ≤ most-steps) (sym at-filled) (less-le (good .fine .steps));
+        long = filled-long;
+        in-range =
+            subst (λ f. (k : ℕ) → 1 ≤ k → k ≤ 256 * f 4 + f 5 → f (5 + 4 * (256 * f 2 + f 3) + k) < most-processes) (sym at-filled)
+            joined-entry;
+      }
