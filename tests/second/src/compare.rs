@@ -2,9 +2,11 @@
 
 use crate::calls::{Calls, REPORT, SECOND};
 use crate::check;
+use crate::failure::guarded;
 use crate::file::{self, FILE_LIMIT, WORK};
 use crate::job::Job;
 use crate::library::LIBRARY;
+use std::fmt;
 
 /// Memory behind the lent part, which nothing may touch.
 const MARGIN: usize = 256;
@@ -16,6 +18,12 @@ const ROOM: usize = REPORT + MARGIN;
 pub struct Answer {
     pub number: u32,
     pub length: usize,
+}
+
+impl fmt::Display for Answer {
+    fn fmt(&self, out: &mut fmt::Formatter) -> fmt::Result {
+        write!(out, "number {} length {}", self.number, self.length)
+    }
 }
 
 impl Answer {
@@ -95,14 +103,14 @@ impl Compare {
         let (work, out) = patterns(&self.pattern, self.calls);
         self.second.fill(work, out);
         self.library.fill(work, out);
-        let second = Answer::of(make(&mut self.second));
+        let second = Answer::of(guarded(|| Ok(make(&mut self.second)))?);
         let library = Answer::of(make(&mut self.library));
-        ensure(second == library, || format!("the second replayer answers {second:?}, the library {library:?}"))?;
+        ensure(second == library, || format!("the second replayer answers {second}, the library {library}"))?;
         difference("work", &self.second.work, &self.library.work)?;
         difference("output", &self.second.out, &self.library.out)?;
         ensure(library.number < 13, || format!("number {}", library.number))?;
         self.met[call][library.number as usize] += 1;
-        ensure(library.number == 0 || library.length == 0, || format!("a refusal with a length: {library:?}"))?;
+        ensure(library.number == 0 || library.length == 0, || format!("a refusal with a length: {library}"))?;
         Ok(library)
     }
 
@@ -163,17 +171,17 @@ impl Compare {
     pub fn file(&mut self, file: &[u8]) -> Result<Answer, String> {
         let replayed = self.replay(file, ENOUGH)?;
         let read = self.read(file, WORK)?;
-        ensure(replayed.number == read.number, || format!("replay answers {replayed:?}, read {read:?}"))?;
+        ensure(replayed.number == read.number, || format!("replay answers {replayed}, read {read}"))?;
         Ok(replayed)
     }
 
     /// An accepted job: write, read and replay it, go round, and check demand 3 on both sides' reports.
     pub fn job(&mut self, stream: &[u8]) -> Result<check::Seen, String> {
         let written = self.write(stream, FILE_LIMIT)?;
-        ensure(written.number == 0, || format!("the writer refuses the job: {written:?}"))?;
+        ensure(written.number == 0, || format!("the writer refuses the job: {written}"))?;
         let file = self.output(written).to_vec();
         let read = self.read(&file, WORK)?;
-        ensure(read == Answer { number: 0, length: stream.len() }, || format!("the written file reads as {read:?}"))?;
+        ensure(read == Answer { number: 0, length: stream.len() }, || format!("the written file reads as {read}"))?;
         difference("the stream that comes round", stream, &self.library.work[..stream.len()])?;
         self.run(stream, &file)
     }
@@ -192,7 +200,7 @@ impl Compare {
             return Err(format!("{}the second replayer's report {second}\n  the library's report {library}", said(&replayed)));
         }
         let answer = replayed?;
-        ensure(answer.number == 0, || format!("the replay refuses the job: {answer:?}"))?;
+        ensure(answer.number == 0, || format!("the replay refuses the job: {answer}"))?;
         own.map_err(|why| format!("both sides agree, but the report does not explain the run: {why}"))
     }
 }

@@ -51,6 +51,15 @@ pub fn decides(faults: &[Fault]) -> u32 {
     faults.iter().min_by_key(|fault| fault.place()).map_or(0, |fault| fault.number)
 }
 
+/// A wrong sum in a block, and a wrong number with right sums in one.
+pub fn wrong_sum(block: usize) -> Fault {
+    Fault { number: 3, change: Change::Sum(block, 3, 1) }
+}
+
+pub fn wrong_number(block: usize) -> Fault {
+    Fault { number: 4, change: Change::Number(block, block as u16 + 1) }
+}
+
 /// A byte from `low` up.
 fn from(low: u8, random: &mut Random) -> u8 {
     if random.chance(2) { low } else { random.between(usize::from(low), 255) as u8 }

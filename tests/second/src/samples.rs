@@ -128,6 +128,11 @@ pub fn traces() -> Vec<Trace> {
     traces
 }
 
+/// The sample jobs by the names of their files.
+pub fn all() -> [(&'static str, Draft); 3] {
+    [("listing", listing().draft), ("fifth-trace", fifth().draft), ("flood-hour", flood_hour())]
+}
+
 /// An hour of a flood: five gauges put rising stages, three uplinks take, at uneven speeds; some operations stay open or waiting.
 pub fn flood_hour() -> Draft {
     let mut random = Random::new(1936);

@@ -11,6 +11,7 @@ const FIRST_SEED: u64 = 1;
 fn main() -> ExitCode {
     let mut bench = groups::Bench::new();
     bench.group("traces of the paper", traces::paper);
+    bench.group("sample files", traces::samples);
     bench.group("limits of the paper", limits::paper);
     for style in STYLES {
         bench.group(&format!("jobs, {style:?}"), |bench: &mut Bench| jobs::of_style(bench, style, JOBS, FIRST_SEED));
@@ -18,6 +19,7 @@ fn main() -> ExitCode {
     bench.group("every order of small jobs", every::schedules);
     bench.group("steps, every row both ways", jobs::reached);
     bench.group("faults alone", faults::alone);
+    bench.group("sums and numbers, block by block", faults::block_by_block);
     bench.group("faults in pairs", faults::pairs);
     bench.group("faults in threes", faults::threes);
     bench.group("single changes of a small file", bytes::single_changes);

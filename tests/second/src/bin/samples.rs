@@ -11,9 +11,7 @@ use std::{env, fs, io};
 fn main() -> io::Result<()> {
     let folder = PathBuf::from(env::args().nth(1).unwrap_or_else(|| "examples".to_string()));
     fs::create_dir_all(&folder)?;
-    write(&folder, "listing", &samples::listing().draft)?;
-    write(&folder, "fifth-trace", &samples::fifth().draft)?;
-    write(&folder, "flood-hour", &samples::flood_hour())
+    samples::all().iter().try_for_each(|(name, draft)| write(&folder, name, draft))
 }
 
 fn write(folder: &Path, name: &str, draft: &Draft) -> io::Result<()> {

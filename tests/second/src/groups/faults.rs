@@ -4,9 +4,10 @@ use super::Bench;
 use crate::compare::{ENOUGH, Lent};
 use crate::damage::{self, FILE_NUMBERS, Fault, STREAM_NUMBERS};
 use crate::failure::kept;
-use crate::file::{FILE_LIMIT, WORK};
+use crate::file::{FILE_LIMIT, PAYLOAD, WORK};
 use crate::generate::{self, Draft, STYLES};
 use crate::random::Random;
+use crate::samples;
 
 /// How many drafts each combination of numbers is put into.
 const DRAFTS: usize = 40;
@@ -66,6 +67,23 @@ fn combination(bench: &mut Bench, numbers: &[u32], random: &mut Random) -> Resul
 pub fn alone(bench: &mut Bench) -> Result<usize, String> {
     let mut random = Random::new(1);
     FILE_NUMBERS.iter().map(|&number| combination(bench, &[number], &mut random)).sum()
+}
+
+/// A wrong sum and a wrong number in every two blocks of a file: the earlier block decides, and within a block the sum.
+pub fn block_by_block(bench: &mut Bench) -> Result<usize, String> {
+    let draft = samples::flood_hour();
+    let blocks = draft.stream().len().div_ceil(PAYLOAD);
+    for sum in 0..blocks {
+        for number in 0..blocks {
+            let faults = [damage::wrong_number(number), damage::wrong_sum(sum)];
+            in_file(bench, &draft, &faults)?;
+            let expected = if sum <= number { 3 } else { 4 };
+            if damage::decides(&faults) != expected {
+                return Err(format!("blocks {sum} and {number}: the order of the tests is wrong"));
+            }
+        }
+    }
+    Ok(blocks * blocks)
 }
 
 pub fn pairs(bench: &mut Bench) -> Result<usize, String> {
