@@ -31,15 +31,27 @@ unfoldable pub read-work : List ℕ → List ℕ → List ℕ
 read-work file work =
     pick (small-work work) work (held (pick (same (file-refusal file) 0) (stream-of file) []) work)
 
+-- number 1 of a write: "output under 17,920 bytes"
+abbrev pub small-output : List ℕ → Bool
+small-output out = less (length out) most-file
+
+-- number 2 of a write: "under 6 bytes", the length of a header
+abbrev pub no-header : List ℕ → Bool
+no-header s = less (length s) 6
+
+-- number 9 of a write: "length not L"
+abbrev pub wrong-length : List ℕ → Bool
+wrong-length s = not (same (length s) (stream-length s))
+
 -- "The writer takes a stream without padding. It refuses 1 (output under 17,920 bytes), 2 (under 6 bytes), then 5 to 8, 9 (length
 -- not L), 10, 11"
 unfoldable pub write-number : List ℕ → List ℕ → ℕ
 write-number s out =
     first-met
-    ((1, less (length out) most-file)
-    ∷ (2, less (length s) 6)
+    ((1, small-output out)
+    ∷ (2, no-header s)
     ∷ header-conditions s
-    ++ (9, not (same (length s) (stream-length s)))
+    ++ (9, wrong-length s)
     ∷ list-conditions s)
 
 -- "done, it gives the file's length"

@@ -3,7 +3,6 @@ use mathlib.Core.Path.{_≡_, refl, sym, ap, subst, _∙_}
 use Prim.Native.Nat.{ℕ, zero, suc}
 use mathlib.Core.Bool.{Bool, true, false}
 use mathlib.Core.List.{List, [], _∷_, _++_, append-assoc, append-nil}
-use Rattle.basics.specs.Choice.{pick}
 use Rattle.basics.specs.Text.{text, decimal}
 use Rattle.basics.proofs.Choice.{pick-then, pick-else}
 use Rattle.machine.specs.Effects.{numbers, sift}

@@ -2,8 +2,8 @@
 use job::Kind;
 use machine::Operation;
 use machine::Step;
+use memory::word_at;
 use text::put_bytes;
-use text::put_decimal;
 use text::put_labelled;
 ghost use mathlib.Core.Path.{_≡_};
 ghost use mathlib.Core.List.{_++_};
@@ -11,7 +11,6 @@ ghost use Prim.Native.Nat.{_+_, _≤_, _<_};
 ghost use lib.ListN.{length};
 ghost use Rattle.basics.specs.Text.{text, decimal};
 ghost use Rattle.basics.specs.Maps as Maps;
-ghost use Rattle.basics.specs.Words.{word};
 ghost use Rattle.text.specs.Laid.{Wrote};
 ghost use Rattle.job.specs.Stream.{record-at};
 ghost use Rattle.job.specs.Job.{job-of};
@@ -44,14 +43,6 @@ fn is_put(stream: &[u8], o: Operation) -> bool
 {
     let place = record_at(o);
     stream[place + 1] == 1
-}
-
-// The number in the two bytes at an index.
-pub fn word_at(s: &[u8], i: usize) -> u16
-    requires { ⌜ i + 1 < length (now s) ⌝ }
-    ensures { λ r. ⌜ r ≡ word (now (s .entry)) i ⌝ }
-{
-    256 * (s[i] as u16) + s[i + 1] as u16
 }
 
 // The value of a put, in mm.

@@ -2,7 +2,7 @@
 -- what an operation without link and item did. Assumes nothing.
 use mathlib.Core.Path.{_≡_, refl, sym, ap, subst, _∙_}
 use mathlib.Core.Logic.{_≢_, _⊎_, inl, inr}
-use Prim.Native.Nat.{ℕ, zero, suc, _≤_, _<_}
+use Prim.Native.Nat.{ℕ, zero, suc, _≤_}
 use native.Mathlib.Omega.{arith}
 use mathlib.Core.List.{[]}
 use Rattle.basics.proofs.Choice.{pick-then, pick-else, equal-same, unequal-same}
@@ -83,22 +83,22 @@ module _ (j : Job) (k : ℕ) where
   unfolding said
   ended-empty o op l t z = answer-said o op z ∙ pick-then _ Answer.done (equal-same l) ∙ pick-then Answer.empty _ (equal-same t)
 
--- who makes a step is an operation, and at an idle step no line stands
-module _ (j : Job) (k : ℕ) where
-  pub maker-operation : (s : ℕ) → 1 ≤ s → note j s .by ≢ 0 → Operation j (note j s .by)
-  unfolding actor
-  maker-operation zero low some = absurd (omega arith)
-  maker-operation (suc s) low some = go (step-made j s)
-    where
-      go : Idles j s ⊎ ((o : ℕ) × Acts j s o) → Operation j (note j (suc s) .by)
-      go (inl i) = absurd (some (i .nobody))
-      go (inr a) = subst (Operation j) (sym (a .1 .actor-is)) (record { from-one = a .1 .from-one; to-count = a .1 .to-count })
+-- who makes a step is an operation
+pub maker-operation : (j : Job) (s : ℕ) → 1 ≤ s → note j s .by ≢ 0 → Operation j (note j s .by)
+unfolding actor
+maker-operation j zero low some = absurd (omega arith)
+maker-operation j (suc s) low some = go (step-made j s)
+  where
+    go : Idles j s ⊎ ((o : ℕ) × Acts j s o) → Operation j (note j (suc s) .by)
+    go (inl i) = absurd (some (i .nobody))
+    go (inr a) = subst (Operation j) (sym (a .1 .actor-is)) (record { from-one = a .1 .from-one; to-count = a .1 .to-count })
 
-  pub idle-line : (s : ℕ) → 1 ≤ s → s ≤ k → note j s .by ≡ 0 → line-at j k s ≡ []
-  unfolding actor
-  idle-line zero low high e = absurd (omega arith)
-  idle-line (suc s) low high e = go (step-made j s)
-    where
-      go : Idles j s ⊎ ((o : ℕ) × Acts j s o) → line-at j k (suc s) ≡ []
-      go (inl i) = line-of-none j k (suc s) low high (subst Lineless (sym (i .event)) quiet)
-      go (inr a) = let o : ℕ = a .0 in absurd (omega (arith, a .1 .from-one, sym (a .1 .actor-is) ∙ e))
+-- no line stands at an idle step
+pub idle-line : (j : Job) (k s : ℕ) → 1 ≤ s → s ≤ k → note j s .by ≡ 0 → line-at j k s ≡ []
+unfolding actor
+idle-line j k zero low high e = absurd (omega arith)
+idle-line j k (suc s) low high e = go (step-made j s)
+  where
+    go : Idles j s ⊎ ((o : ℕ) × Acts j s o) → line-at j k (suc s) ≡ []
+    go (inl i) = line-of-none j k (suc s) low high (subst Lineless (sym (i .event)) quiet)
+    go (inr a) = absurd (omega (arith, a .1 .from-one, sym (a .1 .actor-is) ∙ e))

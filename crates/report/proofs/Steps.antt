@@ -2,7 +2,6 @@
 use mathlib.Core.Path.{_≡_, refl, sym, ap, subst, _∙_}
 use mathlib.Core.Logic.{_≢_}
 use Prim.Native.Nat.{ℕ, zero, suc, _≤_}
-use mathlib.Core.Bool.{Bool}
 use mathlib.Core.List.{List, [], _∷_, _++_, append-nil, append-assoc}
 use Rattle.basics.specs.Choice.{same}
 use Rattle.basics.specs.Maps.{at}
@@ -21,7 +20,7 @@ use Rattle.machine.proofs.Lists.{sift-agrees, numbers-out}
 use Rattle.machine.proofs.Lines.{effect-of-taker, effect-of-put, effect-of-empty}
 use Rattle.text.proofs.Each.{each-to}
 use Rattle.lines.specs.Members.{takers-of}
-use Rattle.report.specs.Holds.{Column, HoldsEffects}
+use Rattle.report.specs.Holds.{MadeBy, Column, HoldsEffects}
 use Rattle.report.proofs.Facts.{item-operation, no-effect, ended-empty, maker-operation, idle-line}
 
 -- the text of an effect's line, at its step and elsewhere
@@ -122,12 +121,17 @@ record-is-each j k (suc n) =
 
 -- who made a step, by an array
 module _ (j : Job) {by : List ℕ} {n : ℕ} (h : Column 1 n by (λ s. note j s .by)) (s : ℕ) (low : 1 ≤ s) (high : s ≤ n) where
-  pub maker-held : note j s .by ≡ at by s
-  maker-held = sym (h .reads s low high)
+  maker : note j s .by ≡ at by s
+  maker = sym (h .reads s low high)
 
-  pub maker-is-operation : at by s ≢ 0 → Operation j (at by s)
-  maker-is-operation some = subst (Operation j) maker-held (maker-operation j 0 s low (λ z. some (sym maker-held ∙ z)))
+  pub maker-held : {count : ℕ} → count ≡ j .count → at by s ≢ 0 → MadeBy j count s (at by s)
+  maker-held all some =
+      record {
+        its-count = all;
+        operation = subst (Operation j) maker (maker-operation j s low (λ z. some (sym maker ∙ z)));
+        made = maker;
+      }
 
   pub idle-text : (k : ℕ) → s ≤ k → at by s ≡ 0 → step-text j k s ≡ []
   unfolding record-lines
-  idle-text k to-end z = ap record-lines (idle-line j k s low to-end (maker-held ∙ z))
+  idle-text k to-end z = ap record-lines (idle-line j k s low to-end (maker ∙ z))

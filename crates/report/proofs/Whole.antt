@@ -1,16 +1,26 @@
 -- The pieces of the report, and what the arrays hold for each. Assumes nothing.
-use mathlib.Core.Path.{_≡_, ap, sym, subst, _∙_}
-use Prim.Native.Nat.{ℕ, _+_, _≤_}
+use mathlib.Core.Path.{_≡_, ap, _∙_}
+use Prim.Native.Nat.{ℕ}
 use native.Mathlib.Nat.{zero-add}
 use mathlib.Core.List.{List, _++_}
 use lib.ListN.{length}
 use Rattle.text.specs.Laid.{Wrote}
 use Rattle.job.specs.declared.Kind.{Kind}
-use Rattle.job.specs.Job.{Job}
+use Rattle.job.specs.Stream.{operations, schedule-length}
+use Rattle.job.specs.Job.{Job, job-of}
 use Rattle.machine.specs.Record.{lines-to, the-record}
 use Rattle.machine.specs.Left.{left}
 use Rattle.machine.specs.Report.{object-line, operation-lines, record-lines, left-line, report}
 use Rattle.report.specs.Holds.{Holds, HoldsAnswers, HoldsEffects, Reported}
+
+-- the stream's own numbers are the job's
+pub count-of-job : (s : List ℕ) {n : ℕ} → n ≡ operations s → n ≡ job-of s .count
+unfolding job-of
+count-of-job s e = e
+
+pub steps-of-job : (s : List ℕ) {n : ℕ} → n ≡ schedule-length s → n ≡ job-of s .steps
+unfolding job-of
+steps-of-job s e = e
 
 module _ (j : Job) {object : Kind} {count steps : ℕ} (of : object ≡ j .object) (all : count ≡ j .count) (long : steps ≡ j .steps) where
   pub report-pieces : object-line object ++ operation-lines j (j .steps) count ++ record-lines (lines-to j (j .steps) steps) ++ left-line (left j (j .steps)) ≡ report j

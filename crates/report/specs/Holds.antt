@@ -10,7 +10,14 @@ use Rattle.job.specs.Job.{Job}
 use Rattle.machine.specs.Memory.{Memory}
 use Rattle.machine.specs.Journal
 use Rattle.machine.specs.Effects.{takes-at}
+use Rattle.machine.specs.Explained.{Operation}
 use Rattle.text.specs.Laid.{laid}
+
+-- an operation of a job with so many operations made a step
+pub record MadeBy (j : Job) (count s o : ℕ) : Type 0 where
+  pub its-count : count ≡ j .count
+  pub operation : Operation j o
+  pub made : Journal.note j s .by ≡ o
 
 -- an array holds what a function gives for the numbers from `low` to `high`
 pub record Column (low high : ℕ) (l : List ℕ) (f : ℕ → ℕ) : Type 0 where

@@ -1,12 +1,13 @@
 // The report of a finished run, from the arrays that it leaves.
 use job::Kind;
+use job::operations;
+use job::schedule_length;
 use lines::empty_line;
 use lines::left_line;
 use lines::object_line;
 use lines::operation_line;
 use lines::put_line;
 use lines::take_line;
-use lines::word_at;
 use machine::Operation;
 use machine::Step;
 ghost use mathlib.Core.Path.{_≡_};
@@ -18,11 +19,11 @@ ghost use Rattle.job.specs.Stream.{stream-length};
 ghost use Rattle.job.specs.Job.{job-of};
 ghost use Rattle.machine.specs.Run.{state-after};
 ghost use Rattle.machine.specs.Journal.{note};
-ghost use Rattle.machine.specs.Record.{line-at, lines-to, the-record};
+ghost use Rattle.machine.specs.Record.{line-at, lines-to};
 ghost use Rattle.machine.specs.Left.{left};
 ghost use Rattle.machine.specs.Explained as Explained;
 ghost use Rattle.machine.specs.Report.{operation-line, operation-lines, record-lines, left-line, report};
-ghost use Rattle.report.specs.Holds.{Column, Holds, HoldsAnswers, HoldsEffects, Remembers, first-node, Reported};
+ghost use Rattle.report.specs.Holds.{MadeBy, Column, Holds, HoldsAnswers, HoldsEffects, Remembers, first-node, Reported};
 
 // The object of a job.
 pub fn object_of(stream: &[u8]) -> Kind
@@ -34,22 +35,6 @@ pub fn object_of(stream: &[u8]) -> Kind
     } else {
         Kind::Stack
     }
-}
-
-// The number of a job's operations.
-fn count_of(stream: &[u8]) -> u16
-    requires { ⌜ stream-length (now stream) ≤ length (now stream) ⌝ }
-    ensures { λ r. ⌜ r ≡ job-of (now (stream .entry)) .count ⌝ }
-{
-    word_at(stream, 2)
-}
-
-// The number of a job's steps.
-fn steps_of(stream: &[u8]) -> u16
-    requires { ⌜ stream-length (now stream) ≤ length (now stream) ⌝ }
-    ensures { λ r. ⌜ r ≡ job-of (now (stream .entry)) .steps ⌝ }
-{
-    word_at(stream, 4)
 }
 
 // The line of an operation, by the arrays.
@@ -106,7 +91,7 @@ fn operation_lines(
     place
 }
 
-// The line of a step, if there is one: the effect of the operation that made it, by the arrays.
+// The effect of the operation that made a step, if it stands there, by the arrays.
 fn step_line(
     out: &mut [u8],
     at: usize,
@@ -120,8 +105,7 @@ fn step_line(
     s: Step,
     o: Operation,
 ) -> usize
-    requires { ⌜ (count ≡ job-of (now stream) .count) × Explained.Operation (job-of (now stream)) (o .0) × (note (job-of (now stream)) (s .0) .by ≡ o .0) ⌝ }
-    requires { ⌜ HoldsEffects (job-of (now stream)) (job-of (now stream) .steps) (now last) (now start) (now link) (now taken) (now stands) ⌝ }
+    requires { ⌜ MadeBy (job-of (now stream)) count (s .0) (o .0) × HoldsEffects (job-of (now stream)) (job-of (now stream) .steps) (now last) (now start) (now link) (now taken) (now stands) ⌝ }
     requires { ⌜ at + length (record-lines (line-at (job-of (now stream)) (job-of (now stream) .steps) (s .0))) ≤ length (now out) ⌝ }
     ensures { λ r. ⌜ Wrote (now (out .entry)) (now (out .exit)) at r (record-lines (line-at (job-of (now (stream .entry))) (job-of (now (stream .entry)) .steps) (s .0))) ⌝ }
 {
@@ -140,13 +124,50 @@ fn step_line(
         }
         return take_line(out, at, s, taken, count, Operation(item));
     }
-    if last[i] == 0 {
+    if last[i] != 0 {
+        if start[i] == s.0 {
+            return empty_line(out, at, s, o);
+        }
+    }
+    at
+}
+
+// The line of a step, if there is one: none of an idle step.
+fn line_at(
+    out: &mut [u8],
+    at: usize,
+    stream: &[u8],
+    last: &[u16],
+    start: &[u16],
+    link: &[u16],
+    taken: &[u16],
+    stands: &[u16],
+    by: &[u16],
+    count: u16,
+    s: Step,
+) -> usize
+    requires { ⌜ (count ≡ job-of (now stream) .count) × Column 1 (job-of (now stream) .steps) (now by) (λ s. note (job-of (now stream)) s .by) × (1 ≤ s .0) × (s .0 ≤ job-of (now stream) .steps) ⌝ }
+    requires { ⌜ HoldsEffects (job-of (now stream)) (job-of (now stream) .steps) (now last) (now start) (now link) (now taken) (now stands) ⌝ }
+    requires { ⌜ at + length (record-lines (line-at (job-of (now stream)) (job-of (now stream) .steps) (s .0))) ≤ length (now out) ⌝ }
+    ensures { λ r. ⌜ Wrote (now (out .entry)) (now (out .exit)) at r (record-lines (line-at (job-of (now (stream .entry))) (job-of (now (stream .entry)) .steps) (s .0))) ⌝ }
+{
+    let o = by[s.0 as usize];
+    if o == 0 {
         return at;
     }
-    if start[i] != s.0 {
-        return at;
-    }
-    empty_line(out, at, s, o)
+    step_line(
+        out,
+        at,
+        stream,
+        last,
+        start,
+        link,
+        taken,
+        stands,
+        count,
+        s,
+        Operation(o),
+    )
 }
 
 // The record, in step order.
@@ -163,7 +184,7 @@ fn record_lines(
     count: u16,
     steps: u16,
 ) -> usize
-    requires { ⌜ (count ≡ job-of (now stream) .count) × (steps ≡ job-of (now stream) .steps) × Column 1 steps (now by) (λ s. note (job-of (now stream)) s .by) ⌝ }
+    requires { ⌜ (count ≡ job-of (now stream) .count) × (steps ≡ job-of (now stream) .steps) × Column 1 (job-of (now stream) .steps) (now by) (λ s. note (job-of (now stream)) s .by) ⌝ }
     requires { ⌜ HoldsEffects (job-of (now stream)) (job-of (now stream) .steps) (now last) (now start) (now link) (now taken) (now stands) ⌝ }
     requires { ⌜ at + length (record-lines (lines-to (job-of (now stream)) (job-of (now stream) .steps) steps)) ≤ length (now out) ⌝ }
     ensures { λ r. ⌜ Wrote (now (out .entry)) (now (out .exit)) at r (record-lines (lines-to (job-of (now (stream .entry))) (job-of (now (stream .entry)) .steps) steps)) ⌝ }
@@ -172,11 +193,7 @@ fn record_lines(
     let mut s: u16 = 0;
     while s < steps {
         s += 1;
-        let o = by[s as usize];
-        if o == 0 {
-            continue;
-        }
-        place = step_line(
+        place = line_at(
             out,
             place,
             stream,
@@ -185,9 +202,9 @@ fn record_lines(
             link,
             taken,
             stands,
+            by,
             count,
             Step(s),
-            Operation(o),
         );
     }
     place
@@ -247,13 +264,12 @@ pub fn write_report(
     ensures { λ r. ⌜ Reported (now (out .entry)) (now (out .exit)) r (report (job-of (now (stream .entry)))) ⌝ }
 {
     let object = object_of(stream);
-    let count = count_of(stream);
-    let steps = steps_of(stream);
-    let place = object_line(out, 0, object);
-    let place = operation_lines(out, place, stream, first, last, link, taken, count);
-    let place = record_lines(
+    let count = operations(stream);
+    let at = object_line(out, 0, object);
+    let at = operation_lines(out, at, stream, first, last, link, taken, count);
+    let at = record_lines(
         out,
-        place,
+        at,
         stream,
         last,
         start,
@@ -262,7 +278,7 @@ pub fn write_report(
         stands,
         by,
         count,
-        steps,
+        schedule_length(stream),
     );
-    left_of(out, place, stream, object, next, mark, head, top, count)
+    left_of(out, at, stream, object, next, mark, head, top, count)
 }

@@ -1,10 +1,9 @@
 -- `lines::put_left` meets its contract. The loop's invariant: what is left from node `i` on is still to be written. The measure is how
 -- many nodes may still come. Assumes nothing.
-use mathlib.Core.Path.{_≡_, sym, ap, subst, _∙_}
-use Prim.Native.Nat.{ℕ, _-_, _≤_}
-use mathlib.Core.List.{List}
+use mathlib.Core.Path.{sym, _∙_}
+use Prim.Native.Nat.{_-_, _≤_}
 use native.Mathlib.Omega.{arith}
-use lib.ListN.{length, length-append}
+use lib.ListN.{length-append}
 use Rattle.basics.specs.Maps as Maps
 use Rattle.basics.specs.Text.{text}
 use Rattle.machine.specs.Report.{spaced}

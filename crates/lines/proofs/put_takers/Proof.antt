@@ -1,6 +1,6 @@
 -- `lines::put_takers` meets its contract. The loop's invariant: the takers up to `o` are written. The measure is how many operations are
 -- left. Assumes nothing.
-use mathlib.Core.Path.{_≡_, ap}
+use mathlib.Core.Path.{ap}
 use Prim.Native.Nat.{ℕ, _+_, _-_}
 use mathlib.Core.Bool.{Bool}
 use mathlib.Core.List.{List}

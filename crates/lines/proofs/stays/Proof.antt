@@ -1,5 +1,5 @@
 -- `lines::stays` meets its contract. Assumes nothing.
-use mathlib.Core.Path.{refl, sym, ap}
+use mathlib.Core.Path.{sym, ap}
 use borrow.Author.Needs.{needs}
 use Rattle.basics.specs.Choice.{same}
 use Rattle.basics.specs.Maps as Maps

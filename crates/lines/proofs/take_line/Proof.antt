@@ -2,7 +2,7 @@
 use mathlib.Core.Path.{refl}
 use native.Mathlib.Omega.{arith}
 use borrow.Author.Needs.{needs}
-use lib.ListN.{length, length-append}
+use lib.ListN.{length-append}
 use Rattle.basics.specs.Text.{text}
 use Rattle.machine.specs.Report.{record-line}
 use Rattle.text.proofs.Laid.{wrote-three}

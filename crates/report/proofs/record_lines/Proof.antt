@@ -1,14 +1,13 @@
 -- `report::record_lines` meets its contract. The loop's invariant: the lines of the steps up to `s` are written. The measure is how many
 -- steps are left. Assumes nothing.
 use mathlib.Core.Path.{ap}
-use Prim.Native.Nat.{_+_, _-_}
+use Prim.Native.Nat.{_-_}
 use native.Mathlib.Omega.{arith}
 use lib.ListN.{length}
-use Rattle.basics.specs.Maps.{at}
 use Rattle.job.specs.Job.{job-of}
 use Rattle.text.proofs.Laid.{wrote-as}
-use Rattle.text.proofs.Each.{Written, written-none, written-room, written-more, written-same, written-all}
-use Rattle.report.proofs.Steps.{step-text, record-is-each, maker-held, maker-is-operation, idle-text}
+use Rattle.text.proofs.Each.{Written, written-none, written-room, written-more, written-all}
+use Rattle.report.proofs.Steps.{step-text, record-is-each}
 use Rattle.report.proofs.record_lines.Statement.{statement}
 use Rattle.report.proofs.record_lines.Tie as tie
 
@@ -22,48 +21,24 @@ abbrev μ-loop : tie.MeasureT-loop
 loop-holds : tie.Need-loop-holds Inv-loop μ-loop
 loop-holds c =
     let start = c .before .before .before .before .before .before .before .before in
-    written-none _ _ _ _ (omega (arith, ap length (record-is-each (job-of (start .args .stream .now)) (job-of (start .args .stream .now) .steps) (start .args .steps))))
+    let job = job-of (start .args .stream .now) in
+    written-none _ _ _ _ (omega (arith, ap length (record-is-each job (job .steps) (start .args .steps))))
 
 add-s : tie.Need-add-s Inv-loop μ-loop
 add-s c = omega arith
 
-cast-o : tie.Need-cast-o Inv-loop μ-loop
-cast-o c =
-    let start = c .before .before .before .before .before .before .before .before .before .before in
-    omega (arith, start .pre .0 .2 .long)
-
-mul-o : tie.Need-mul-o Inv-loop μ-loop
-mul-o c =
-    let start = c .before .before .before .before .before .before .before .before .before .before in
-    omega (arith, start .pre .0 .2 .long)
-
-shared-slice-read-o : tie.Need-shared-slice-read-o Inv-loop μ-loop
-shared-slice-read-o c =
+line-at-requires : tie.Need-line-at-requires Inv-loop μ-loop
+line-at-requires c κs =
     let start = c .before .before .before .before .before .before .before .before .before .before .before in
-    omega (arith, start .pre .0 .2 .long)
+    let job = job-of (start .args .stream .now) in
+    let room = written-room (c .before .before .loop .inv) (c .before .loop-test .taken) in
+    ((start .pre .0 .0, start .pre .0 .2, omega arith, omega (arith, start .pre .0 .1)), (start .pre .1 .0, room))
 
 loop-less : tie.Need-loop-less Inv-loop μ-loop
 loop-less c = omega arith
 
 loop-again : tie.Need-loop-again Inv-loop μ-loop
-unfolding at
-loop-again c =
-    let start = c .before .before .before .before .before .before .before .before .before .before .before .before in
-    let nothing = idle-text (job-of (start .args .stream .now)) (start .pre .0 .2) (c .before .before .before .loop .s + 1) (omega arith) (omega arith) (job-of (start .args .stream .now) .steps) (omega (arith, start .pre .0 .1)) (c .if1 .taken) in
-    written-same (c .before .before .before .loop .inv) (c .before .before .loop-test .taken) nothing
-
-step-line-requires : tie.Need-step-line-requires Inv-loop μ-loop
-unfolding at
-step-line-requires c κs =
-    let start = c .before .before .before .before .before .before .before .before .before .before .before .before .before in
-    let makers = start .pre .0 .2 in
-    ((start .pre .0 .0, maker-is-operation (job-of (start .args .stream .now)) makers (c .before .before .before .before .loop .s + 1) (omega arith) (omega arith) (c .before .if1 .left), maker-held (job-of (start .args .stream .now)) makers (c .before .before .before .before .loop .s + 1) (omega arith) (omega arith)), (start .pre .1 .0, written-room (c .before .before .before .before .loop .inv) (c .before .before .before .loop-test .taken)))
-
-loop-less-2 : tie.Need-loop-less-2 Inv-loop μ-loop
-loop-less-2 c = omega arith
-
-loop-again-2 : tie.Need-loop-again-2 Inv-loop μ-loop
-loop-again-2 c = written-more (c .before .before .before .before .before .before .before .loop .inv) (c .before .before .before .before .before .before .loop-test .taken) (c .before .before .step-line .ensures)
+loop-again c = written-more (c .before .before .before .before .before .loop .inv) (c .before .before .before .before .loop-test .taken) (c .before .before .line-at .ensures)
 
 same-length : tie.Need-same-length Inv-loop μ-loop
 same-length c = c .before .loop .inv .wrote .as-long
@@ -71,7 +46,8 @@ same-length c = c .before .loop .inv .wrote .as-long
 returns : tie.Need-returns Inv-loop μ-loop
 returns c =
     let start = c .before .before .before .before .before .before .before .before .before .before in
-    wrote-as (record-is-each (job-of (start .args .stream .now)) (job-of (start .args .stream .now) .steps) (start .args .steps)) (written-all (c .before .loop .inv) (c .loop-test .left))
+    let job = job-of (start .args .stream .now) in
+    wrote-as (record-is-each job (job .steps) (start .args .steps)) (written-all (c .before .loop .inv) (c .loop-test .left))
 
 pub record-lines-spec : {M : Type 1} → statement M
 record-lines-spec =
@@ -81,13 +57,8 @@ record-lines-spec =
     μ-loop
     loop-holds
     add-s
-    cast-o
-    mul-o
-    shared-slice-read-o
+    line-at-requires
     loop-less
     loop-again
-    step-line-requires
-    loop-less-2
-    loop-again-2
     same-length
     returns)

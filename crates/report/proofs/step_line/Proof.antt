@@ -22,16 +22,18 @@ returns : tie.Need-returns
 unfolding at
 returns c =
     let start = c .before .before .before .before .before .before .before .before .before .before .before .before in
-    let of = start .pre .0 in
-    wrote-as (sym (put-elsewhere (start .pre .1 .0) (start .args .s .0) (start .args .o .0) (of .1) (of .2) (c .before .before .if1 .taken) (c .if2 .taken))) (wrote-nothing _ _)
+    let of = start .pre .0 .0 in
+    let held = start .pre .0 .1 in
+    wrote-as (sym (put-elsewhere held (start .args .s .0) (start .args .o .0) (of .operation) (of .made) (c .before .before .if1 .taken) (c .if2 .taken))) (wrote-nothing _ _)
 
 put-line-requires : tie.Need-put-line-requires
 unfolding at
 put-line-requires c κs =
     let start = c .before .before .before .before .before .before .before .before .before .before .before .before .before in
-    let of = start .pre .0 in
-    let same = put-here (start .pre .1 .0) (start .args .s .0) (start .args .o .0) (of .1) (of .2) (c .before .before .before .if1 .taken) (c .before .if2 .left) in
-    omega (arith, ap length same, start .pre .1 .1)
+    let of = start .pre .0 .0 in
+    let held = start .pre .0 .1 in
+    let same = put-here held (start .args .s .0) (start .args .o .0) (of .operation) (of .made) (c .before .before .before .if1 .taken) (c .before .if2 .left) in
+    omega (arith, ap length same, start .pre .1)
 
 same-length : tie.Need-same-length
 same-length c = search needs
@@ -40,8 +42,9 @@ returns-2 : tie.Need-returns-2
 unfolding at
 returns-2 c =
     let start = c .before .before .before .before .before .before .before .before .before .before .before .before .before .before .before .before in
-    let of = start .pre .0 in
-    wrote-as (put-here (start .pre .1 .0) (start .args .s .0) (start .args .o .0) (of .1) (of .2) (c .before .before .before .before .before .before .if1 .taken) (c .before .before .before .before .if2 .left)) (c .before .before .put-line .ensures)
+    let of = start .pre .0 .0 in
+    let held = start .pre .0 .1 in
+    wrote-as (put-here held (start .args .s .0) (start .args .o .0) (of .operation) (of .made) (c .before .before .before .before .before .before .if1 .taken) (c .before .before .before .before .if2 .left)) (c .before .before .put-line .ensures)
 
 mul-item : tie.Need-mul-item
 mul-item c = search needs
@@ -53,37 +56,42 @@ cast-if4 : tie.Need-cast-if4
 unfolding at
 cast-if4 c =
     let start = c .before .before .before .before .before .before .before .before .before .before .before .before in
-    let of = start .pre .0 in
-    omega (arith, item-held (start .pre .1 .0) (start .args .s .0) (start .args .o .0) (of .1) (of .2) (c .if3 .taken) .to-count, start .pre .1 .0 .lines .long)
+    let of = start .pre .0 .0 in
+    let held = start .pre .0 .1 in
+    omega (arith, item-held held (start .args .s .0) (start .args .o .0) (of .operation) (of .made) (c .if3 .taken) .to-count, held .lines .long)
 
 mul-if4 : tie.Need-mul-if4
 unfolding at
 mul-if4 c =
     let start = c .before .before .before .before .before .before .before .before .before .before .before .before in
-    let of = start .pre .0 in
-    omega (arith, item-held (start .pre .1 .0) (start .args .s .0) (start .args .o .0) (of .1) (of .2) (c .if3 .taken) .to-count, start .pre .1 .0 .lines .long)
+    let of = start .pre .0 .0 in
+    let held = start .pre .0 .1 in
+    omega (arith, item-held held (start .args .s .0) (start .args .o .0) (of .operation) (of .made) (c .if3 .taken) .to-count, held .lines .long)
 
 shared-slice-read-if4 : tie.Need-shared-slice-read-if4
 unfolding at
 shared-slice-read-if4 c =
     let start = c .before .before .before .before .before .before .before .before .before .before .before .before .before in
-    let of = start .pre .0 in
-    omega (arith, item-held (start .pre .1 .0) (start .args .s .0) (start .args .o .0) (of .1) (of .2) (c .before .if3 .taken) .to-count, start .pre .1 .0 .lines .long)
+    let of = start .pre .0 .0 in
+    let held = start .pre .0 .1 in
+    omega (arith, item-held held (start .args .s .0) (start .args .o .0) (of .operation) (of .made) (c .before .if3 .taken) .to-count, held .lines .long)
 
 returns-3 : tie.Need-returns-3
 unfolding at
 returns-3 c =
     let start = c .before .before .before .before .before .before .before .before .before .before .before .before .before .before .before in
-    let of = start .pre .0 in
-    wrote-as (sym (take-elsewhere (start .pre .1 .0) (start .args .s .0) (start .args .o .0) (of .1) (of .2) (c .before .before .before .if3 .taken) (c .if4 .taken))) (wrote-nothing _ _)
+    let of = start .pre .0 .0 in
+    let held = start .pre .0 .1 in
+    wrote-as (sym (take-elsewhere held (start .args .s .0) (start .args .o .0) (of .operation) (of .made) (c .before .before .before .if3 .taken) (c .if4 .taken))) (wrote-nothing _ _)
 
 take-line-requires : tie.Need-take-line-requires
 unfolding at
 take-line-requires c κs =
     let start = c .before .before .before .before .before .before .before .before .before .before .before .before .before .before .before .before in
-    let of = start .pre .0 in
-    let same = take-here (start .pre .1 .0) (start .args .s .0) (start .args .o .0) (of .1) (of .2) (of .0) (c .before .before .before .before .if3 .taken) (c .before .if4 .left) in
-    (omega (arith, start .pre .1 .0 .items .long), omega (arith, ap length same, start .pre .1 .1))
+    let of = start .pre .0 .0 in
+    let held = start .pre .0 .1 in
+    let same = take-here held (start .args .s .0) (start .args .o .0) (of .operation) (of .made) (of .its-count) (c .before .before .before .before .if3 .taken) (c .before .if4 .left) in
+    (omega (arith, of .its-count, held .items .long), omega (arith, ap length same, start .pre .1))
 
 same-length-2 : tie.Need-same-length-2
 same-length-2 c = search needs
@@ -92,8 +100,9 @@ returns-4 : tie.Need-returns-4
 unfolding at
 returns-4 c =
     let start = c .before .before .before .before .before .before .before .before .before .before .before .before .before .before .before .before .before .before .before in
-    let of = start .pre .0 in
-    wrote-as (take-here (start .pre .1 .0) (start .args .s .0) (start .args .o .0) (of .1) (of .2) (of .0) (c .before .before .before .before .before .before .before .if3 .taken) (c .before .before .before .before .if4 .left)) (c .before .before .take-line .ensures)
+    let of = start .pre .0 .0 in
+    let held = start .pre .0 .1 in
+    wrote-as (take-here held (start .args .s .0) (start .args .o .0) (of .operation) (of .made) (of .its-count) (c .before .before .before .before .before .before .before .if3 .taken) (c .before .before .before .before .if4 .left)) (c .before .before .take-line .ensures)
 
 mul-if5 : tie.Need-mul-if5
 mul-if5 c = search needs
@@ -101,43 +110,47 @@ mul-if5 c = search needs
 shared-slice-read-if5 : tie.Need-shared-slice-read-if5
 shared-slice-read-if5 c = search needs
 
-returns-5 : tie.Need-returns-5
-unfolding at
-returns-5 c =
-    let start = c .before .before .before .before .before .before .before .before .before .before .before .before .before .before in
-    let of = start .pre .0 in
-    wrote-as (sym (not-ended (start .pre .1 .0) (start .args .s .0) (start .args .o .0) (of .1) (of .2) (c .before .before .before .before .if1 .left) (c .before .before .if3 .left) (c .if5 .taken))) (wrote-nothing _ _)
-
 mul-if6 : tie.Need-mul-if6
 mul-if6 c = search needs
 
 shared-slice-read-if6 : tie.Need-shared-slice-read-if6
 shared-slice-read-if6 c = search needs
 
-returns-6 : tie.Need-returns-6
-unfolding at
-returns-6 c =
-    let start = c .before .before .before .before .before .before .before .before .before .before .before .before .before .before .before .before .before in
-    let of = start .pre .0 in
-    wrote-as (sym (empty-elsewhere (start .pre .1 .0) (start .args .s .0) (start .args .o .0) (of .1) (of .2) (c .before .before .before .before .before .before .before .if1 .left) (c .before .before .before .before .before .if3 .left) (c .before .before .before .if5 .left) (c .if6 .taken))) (wrote-nothing _ _)
-
 empty-line-requires : tie.Need-empty-line-requires
 unfolding at
 empty-line-requires c κs =
     let start = c .before .before .before .before .before .before .before .before .before .before .before .before .before .before .before .before .before .before in
-    let of = start .pre .0 in
-    let same = empty-here (start .pre .1 .0) (start .args .s .0) (start .args .o .0) (of .1) (of .2) (c .before .before .before .before .before .before .before .before .if1 .left) (c .before .before .before .before .before .before .if3 .left) (c .before .before .before .before .if5 .left) (c .before .if6 .left) in
-    omega (arith, ap length same, start .pre .1 .1)
+    let of = start .pre .0 .0 in
+    let held = start .pre .0 .1 in
+    let same = empty-here held (start .args .s .0) (start .args .o .0) (of .operation) (of .made) (c .before .before .before .before .before .before .before .before .if1 .left) (c .before .before .before .before .before .before .if3 .left) (c .before .before .before .before .if5 .taken) (c .before .if6 .taken) in
+    omega (arith, ap length same, start .pre .1)
 
 same-length-3 : tie.Need-same-length-3
 same-length-3 c = search needs
 
+returns-5 : tie.Need-returns-5
+unfolding at
+returns-5 c =
+    let start = c .before .before .before .before .before .before .before .before .before .before .before .before .before .before .before .before .before .before .before .before .before in
+    let of = start .pre .0 .0 in
+    let held = start .pre .0 .1 in
+    wrote-as (empty-here held (start .args .s .0) (start .args .o .0) (of .operation) (of .made) (c .before .before .before .before .before .before .before .before .before .before .before .if1 .left) (c .before .before .before .before .before .before .before .before .before .if3 .left) (c .before .before .before .before .before .before .before .if5 .taken) (c .before .before .before .before .if6 .taken)) (c .before .before .empty-line .ensures)
+
+returns-6 : tie.Need-returns-6
+unfolding at
+returns-6 c =
+    let start = c .before .before .before .before .before .before .before .before .before .before .before .before .before .before .before .before .before in
+    let of = start .pre .0 .0 in
+    let held = start .pre .0 .1 in
+    wrote-as (sym (empty-elsewhere held (start .args .s .0) (start .args .o .0) (of .operation) (of .made) (c .before .before .before .before .before .before .before .if1 .left) (c .before .before .before .before .before .if3 .left) (c .before .before .before .if5 .taken) (c .if6 .left))) (wrote-nothing _ _)
+
 returns-7 : tie.Need-returns-7
 unfolding at
 returns-7 c =
-    let start = c .before .before .before .before .before .before .before .before .before .before .before .before .before .before .before .before .before .before .before .before .before in
-    let of = start .pre .0 in
-    wrote-as (empty-here (start .pre .1 .0) (start .args .s .0) (start .args .o .0) (of .1) (of .2) (c .before .before .before .before .before .before .before .before .before .before .before .if1 .left) (c .before .before .before .before .before .before .before .before .before .if3 .left) (c .before .before .before .before .before .before .before .if5 .left) (c .before .before .before .before .if6 .left)) (c .before .before .empty-line .ensures)
+    let start = c .before .before .before .before .before .before .before .before .before .before .before .before .before .before in
+    let of = start .pre .0 .0 in
+    let held = start .pre .0 .1 in
+    wrote-as (sym (not-ended held (start .args .s .0) (start .args .o .0) (of .operation) (of .made) (c .before .before .before .before .if1 .left) (c .before .before .if3 .left) (c .if5 .left))) (wrote-nothing _ _)
 
 pub step-line-spec : {M : Type 1} → statement M
 step-line-spec =
@@ -161,10 +174,10 @@ step-line-spec =
     returns-4
     mul-if5
     shared-slice-read-if5
-    returns-5
     mul-if6
     shared-slice-read-if6
-    returns-6
     empty-line-requires
     same-length-3
+    returns-5
+    returns-6
     returns-7)

@@ -1,56 +1,65 @@
 -- `report::write_report` meets its contract. Assumes nothing.
-use mathlib.Core.Path.{sym, ap, subst}
+use mathlib.Core.Path.{refl, sym, ap, subst}
 use Prim.Native.Nat.{ℕ}
 use native.Mathlib.Omega.{arith}
 use borrow.Author.Needs.{needs}
 use lib.ListN.{length, length-append}
+use Rattle.job.specs.Stream.{stream-length}
 use Rattle.job.specs.Job.{job-of}
 use Rattle.machine.specs.Run.{state-after}
-use Rattle.machine.specs.Journal.{note}
 use Rattle.text.proofs.Laid.{wrote-four}
-use Rattle.report.specs.Holds.{Column, Remembers}
-use Rattle.report.proofs.Whole.{report-pieces, answers-held, effects-held, reported}
+use Rattle.report.specs.Holds.{Remembers}
+use Rattle.report.proofs.Whole.{count-of-job, steps-of-job, report-pieces, answers-held, effects-held, reported}
 use Rattle.report.proofs.write_report.Statement.{statement}
 use Rattle.report.proofs.write_report.Tie as tie
 
 object-of-requires : tie.Need-object-of-requires
 object-of-requires c κs = search needs
 
-count-of-requires : tie.Need-count-of-requires
-count-of-requires c κs = search needs
-
-steps-of-requires : tie.Need-steps-of-requires
-steps-of-requires c κs = search needs
+operations-requires : tie.Need-operations-requires
+unfolding stream-length
+operations-requires c κs = omega (arith, c .before .before .before .before .before .before .before .before .before .before .before .before .pre .1 .1 .0)
 
 object-line-requires : tie.Need-object-line-requires
 object-line-requires c κs =
-    let start = c .before .before .before .before .before .before .before .before .before .before .before .before .before .before .before in
-    let job = job-of (start .args .stream .now) in
-    let same = report-pieces job (c .before .before .before .object-of .ensures) (c .before .before .count-of .ensures) (c .before .steps-of .ensures) in
+    let start = c .before .before .before .before .before .before .before .before .before .before .before .before .before .before in
+    let stream = start .args .stream .now in
+    let of = c .before .before .object-of .ensures in
+    let all = count-of-job stream (c .before .operations .ensures) in
+    let same = report-pieces (job-of stream) of all refl in
     omega (arith, simp length-append at (ap length same), start .pre .1 .1 .1)
 
 operation-lines-requires : tie.Need-operation-lines-requires
 operation-lines-requires c κs =
-    let start = c .before .before .before .before .before .before .before .before .before .before .before .before .before .before .before .before .before .before .before in
-    let job = job-of (start .args .stream .now) in
-    let same = report-pieces job (c .before .before .before .before .before .before .before .object-of .ensures) (c .before .before .before .before .before .before .count-of .ensures) (c .before .before .before .before .before .steps-of .ensures) in
-    ((start .pre .1 .1 .0, c .before .before .before .before .before .before .count-of .ensures), (answers-held (start .pre .0), omega (arith, simp length-append at (ap length same), start .pre .1 .1 .1, c .before .before .before .object-line .ensures)))
+    let start = c .before .before .before .before .before .before .before .before .before .before .before .before .before .before .before .before .before .before in
+    let stream = start .args .stream .now in
+    let of = c .before .before .before .before .before .before .object-of .ensures in
+    let all = count-of-job stream (c .before .before .before .before .before .operations .ensures) in
+    let same = report-pieces (job-of stream) of all refl in
+    ((start .pre .1 .1 .0, all), (answers-held (start .pre .0), omega (arith, simp length-append at (ap length same), start .pre .1 .1 .1, c .before .before .before .object-line .ensures)))
+
+schedule-length-requires : tie.Need-schedule-length-requires
+unfolding stream-length
+schedule-length-requires c κs = omega (arith, c .before .before .before .before .before .before .before .before .before .before .before .before .before .before .before .before .before .before .before .before .before .before .pre .1 .1 .0)
 
 record-lines-requires : tie.Need-record-lines-requires
 record-lines-requires c κs =
     let start = c .before .before .before .before .before .before .before .before .before .before .before .before .before .before .before .before .before .before .before .before .before .before .before in
-    let job = job-of (start .args .stream .now) in
-    let same = report-pieces job (c .before .before .before .before .before .before .before .before .before .before .before .object-of .ensures) (c .before .before .before .before .before .before .before .before .before .before .count-of .ensures) (c .before .before .before .before .before .before .before .before .before .steps-of .ensures) in
-    let makers = subst (λ (n : ℕ). Column 1 n (start .args .by .now) (λ s. note job s .by)) (sym (c .before .before .before .before .before .before .before .before .before .steps-of .ensures)) (start .pre .0 .makers) in
-    ((c .before .before .before .before .before .before .before .before .before .before .count-of .ensures, c .before .before .before .before .before .before .before .before .before .steps-of .ensures, makers), (effects-held (start .pre .0), omega (arith, simp length-append at (ap length same), start .pre .1 .1 .1, c .before .before .before .before .before .before .before .object-line .ensures, c .before .before .before .operation-lines .ensures)))
+    let stream = start .args .stream .now in
+    let of = c .before .before .before .before .before .before .before .before .before .before .before .object-of .ensures in
+    let all = count-of-job stream (c .before .before .before .before .before .before .before .before .before .before .operations .ensures) in
+    let same = report-pieces (job-of stream) of all (steps-of-job stream (c .schedule-length .ensures)) in
+    ((all, steps-of-job stream (c .schedule-length .ensures), start .pre .0 .makers), (effects-held (start .pre .0), omega (arith, simp length-append at (ap length same), start .pre .1 .1 .1, c .before .before .before .before .before .before .before .before .object-line .ensures, c .before .before .before .before .operation-lines .ensures)))
 
 left-of-requires : tie.Need-left-of-requires
 left-of-requires c κs =
     let start = c .before .before .before .before .before .before .before .before .before .before .before .before .before .before .before .before .before .before .before .before .before .before .before .before .before .before .before in
-    let job = job-of (start .args .stream .now) in
-    let same = report-pieces job (c .before .before .before .before .before .before .before .before .before .before .before .before .before .before .before .object-of .ensures) (c .before .before .before .before .before .before .before .before .before .before .before .before .before .before .count-of .ensures) (c .before .before .before .before .before .before .before .before .before .before .before .before .before .steps-of .ensures) in
-    let memory = subst (λ (n : ℕ). Remembers n (state-after job (job .steps) .memory) (start .args .next .now) (start .args .mark .now) (start .args .head) (start .args .top)) (sym (c .before .before .before .before .before .before .before .before .before .before .before .before .before .before .count-of .ensures)) (start .pre .1 .0) in
-    ((c .before .before .before .before .before .before .before .before .before .before .before .before .before .before .before .object-of .ensures, c .before .before .before .before .before .before .before .before .before .before .before .before .before .before .count-of .ensures), (memory, omega (arith, simp length-append at (ap length same), start .pre .1 .1 .1, c .before .before .before .before .before .before .before .before .before .before .before .object-line .ensures, c .before .before .before .before .before .before .before .operation-lines .ensures, c .before .before .before .record-lines .ensures)))
+    let stream = start .args .stream .now in
+    let of = c .before .before .before .before .before .before .before .before .before .before .before .before .before .before .before .object-of .ensures in
+    let all = count-of-job stream (c .before .before .before .before .before .before .before .before .before .before .before .before .before .before .operations .ensures) in
+    let same = report-pieces (job-of stream) of all (steps-of-job stream (c .before .before .before .before .schedule-length .ensures)) in
+    let memory = subst (λ (n : ℕ). Remembers n (state-after (job-of stream) (job-of stream .steps) .memory) (start .args .next .now) (start .args .mark .now) (start .args .head) (start .args .top)) (sym all) (start .pre .1 .0) in
+    ((of, all), (memory, omega (arith, simp length-append at (ap length same), start .pre .1 .1 .1, c .before .before .before .before .before .before .before .before .before .before .before .before .object-line .ensures, c .before .before .before .before .before .before .before .before .operation-lines .ensures, c .before .before .before .record-lines .ensures)))
 
 same-length : tie.Need-same-length
 same-length c = search needs
@@ -58,18 +67,21 @@ same-length c = search needs
 returns : tie.Need-returns
 returns c =
     let start = c .before .before .before .before .before .before .before .before .before .before .before .before .before .before .before .before .before .before .before .before .before .before .before .before .before .before .before .before .before .before in
-    let same = report-pieces (job-of (start .args .stream .now)) (c .before .before .before .before .before .before .before .before .before .before .before .before .before .before .before .before .before .before .object-of .ensures) (c .before .before .before .before .before .before .before .before .before .before .before .before .before .before .before .before .before .count-of .ensures) (c .before .before .before .before .before .before .before .before .before .before .before .before .before .before .before .before .steps-of .ensures) in
-    reported (wrote-four same (omega (arith, start .pre .1 .1 .1)) (c .before .before .before .before .before .before .before .before .before .before .before .before .before .before .object-line .ensures) (c .before .before .before .before .before .before .before .before .before .before .operation-lines .ensures) (c .before .before .before .before .before .before .record-lines .ensures) (c .before .before .left-of .ensures))
+    let stream = start .args .stream .now in
+    let of = c .before .before .before .before .before .before .before .before .before .before .before .before .before .before .before .before .before .before .object-of .ensures in
+    let all = count-of-job stream (c .before .before .before .before .before .before .before .before .before .before .before .before .before .before .before .before .before .operations .ensures) in
+    let same = report-pieces (job-of stream) of all (steps-of-job stream (c .before .before .before .before .before .before .before .schedule-length .ensures)) in
+    reported (wrote-four same (omega (arith, start .pre .1 .1 .1)) (c .before .before .before .before .before .before .before .before .before .before .before .before .before .before .before .object-line .ensures) (c .before .before .before .before .before .before .before .before .before .before .before .operation-lines .ensures) (c .before .before .before .before .before .before .record-lines .ensures) (c .before .before .left-of .ensures))
 
 pub write-report-spec : {M : Type 1} → statement M
 write-report-spec =
     tie.close
     (tie.spec
     object-of-requires
-    count-of-requires
-    steps-of-requires
+    operations-requires
     object-line-requires
     operation-lines-requires
+    schedule-length-requires
     record-lines-requires
     left-of-requires
     same-length

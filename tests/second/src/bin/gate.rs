@@ -1,0 +1,34 @@
+//! The gate run. Its last line is 'N passed, M failed', counted in test groups.
+
+use second::generate::STYLES;
+use second::groups::{self, Bench, bytes, every, faults, jobs, lengths, limits, rooms, traces};
+use std::process::ExitCode;
+
+/// Jobs of each style, and the first seed.
+const JOBS: usize = 2_500;
+const FIRST_SEED: u64 = 1;
+
+fn main() -> ExitCode {
+    let mut bench = groups::Bench::new();
+    bench.group("traces of the paper", traces::paper);
+    bench.group("sample files", traces::samples);
+    bench.group("limits of the paper", limits::paper);
+    for style in STYLES {
+        bench.group(&format!("jobs, {style:?}"), |bench: &mut Bench| jobs::of_style(bench, style, JOBS, FIRST_SEED));
+    }
+    bench.group("every order of small jobs", every::schedules);
+    bench.group("steps, every row both ways", jobs::reached);
+    bench.group("faults alone", faults::alone);
+    bench.group("sums and numbers, block by block", faults::block_by_block);
+    bench.group("faults in pairs", faults::pairs);
+    bench.group("faults in threes", faults::threes);
+    bench.group("single changes of a small file", bytes::single_changes);
+    bench.group("single changes with right sums", bytes::summed_changes);
+    bench.group("single changes of a small stream", bytes::stream_changes);
+    bench.group("random bytes", bytes::random);
+    bench.group("lengths of files", lengths::files);
+    bench.group("lengths of streams", lengths::streams);
+    bench.group("lent memories", rooms::all);
+    bench.group("every number of the table", faults::met);
+    if bench.finish() { ExitCode::SUCCESS } else { ExitCode::FAILURE }
+}

@@ -1,0 +1,68 @@
+//! What a run showed, counted, so that a test can tell whether its jobs reached every row and every case of the record.
+
+use super::facts::Facts;
+use super::parse::{Effect, Report};
+use crate::watch::{Log, ROWS, Row};
+
+/// Each count is of runs' steps or lines; `rows` is by row and by outcome.
+#[derive(Clone, Default)]
+pub struct Seen {
+    /// A set that changed or did not; a read (or a raised mark) that found zero or something else.
+    pub rows: [[usize; 2]; ROWS],
+    pub shared_lines: usize,
+    pub lines_of_eight: usize,
+    pub open_takers: usize,
+    pub open_puts: usize,
+    pub idle_steps: usize,
+}
+
+impl Seen {
+    pub fn of(log: &Log, facts: &Facts, report: &Report) -> Seen {
+        let mut seen = Seen::default();
+        for event in &log.events {
+            let sets =
+                matches!(event.row, Row::Q3 | Row::Q4 | Row::Q5 | Row::T4 | Row::T5 | Row::P3 | Row::P4 | Row::R4 | Row::R5);
+            let outcome = if sets { event.wrote.is_some() } else { event.held != 0 };
+            seen.rows[event.row as usize][usize::from(outcome)] += 1;
+        }
+        seen.idle_steps = usize::from(log.steps) - log.events.len();
+        for line in &report.lines {
+            seen.line(&line.effect, facts);
+        }
+        seen
+    }
+
+    fn line(&mut self, effect: &Effect, facts: &Facts) {
+        let open = |own: &u16| facts.operations[usize::from(*own)].answer.is_none();
+        match effect {
+            Effect::Put(own) => self.open_puts += usize::from(open(own)),
+            Effect::Take(_, takers) => {
+                self.shared_lines += usize::from(takers.len() > 1);
+                self.lines_of_eight += usize::from(takers.len() == 8);
+                self.open_takers += takers.iter().filter(|own| open(own)).count();
+            }
+            Effect::Empty(_) => {}
+        }
+    }
+
+    pub fn add(&mut self, other: &Seen) {
+        for (own, more) in self.rows.as_flattened_mut().iter_mut().zip(other.rows.as_flattened()) {
+            *own += more;
+        }
+        self.shared_lines += other.shared_lines;
+        self.lines_of_eight += other.lines_of_eight;
+        self.open_takers += other.open_takers;
+        self.open_puts += other.open_puts;
+        self.idle_steps += other.idle_steps;
+    }
+
+    /// Whether every row went both ways and every case of the record was met.
+    pub fn all(&self) -> bool {
+        let rows = self.rows.as_flattened().iter().all(|&count| count > 0);
+        rows && self.shared_lines > 0
+            && self.lines_of_eight > 0
+            && self.open_takers > 0
+            && self.open_puts > 0
+            && self.idle_steps > 0
+    }
+}

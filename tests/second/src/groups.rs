@@ -1,0 +1,60 @@
+//! The groups of tests. Each gives how many jobs, files or streams it tried, or what failed.
+
+pub mod bytes;
+pub mod every;
+pub mod faults;
+pub mod jobs;
+pub mod lengths;
+pub mod limits;
+pub mod rooms;
+pub mod traces;
+
+use crate::check::Seen;
+use crate::compare::Compare;
+use crate::failure::{Present, guarded};
+use std::time::Instant;
+
+/// What the groups share: both sides, and what was met so far.
+pub struct Bench {
+    pub compare: Compare,
+    pub seen: Seen,
+    pub present: Present,
+    passed: usize,
+    failed: usize,
+}
+
+impl Bench {
+    pub fn new() -> Bench {
+        Bench { compare: Compare::new(), seen: Seen::default(), present: Present::new(), passed: 0, failed: 0 }
+    }
+
+    /// Runs one group and prints what it tried, or what failed.
+    pub fn group(&mut self, name: &str, test: impl FnOnce(&mut Bench) -> Result<usize, String>) {
+        let began = Instant::now();
+        let result = guarded(|| test(self));
+        let seconds = began.elapsed().as_secs_f64();
+        match result {
+            Ok(count) => {
+                self.passed += 1;
+                println!("{name}: {count} in {seconds:.1} s");
+            }
+            Err(why) => {
+                self.failed += 1;
+                println!("{name}: FAILED after {seconds:.1} s\n  {why}");
+            }
+        }
+    }
+
+    /// Prints the totals and the last line; gives whether nothing failed.
+    pub fn finish(self) -> bool {
+        println!("{} calls on each side; test groups:", self.compare.calls);
+        println!("{} passed, {} failed", self.passed, self.failed);
+        self.failed == 0
+    }
+}
+
+impl Default for Bench {
+    fn default() -> Bench {
+        Bench::new()
+    }
+}

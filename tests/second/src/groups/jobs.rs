@@ -1,0 +1,76 @@
+//! Random jobs: write, read, replay and demand 3 on each, then a few random faults in its file and in its stream.
+
+use super::Bench;
+use crate::check::Seen;
+use crate::damage;
+use crate::failure::{guarded, seeded};
+use crate::file::{FILE_LIMIT, sealed};
+use crate::generate::{self, Draft, STYLES, Style};
+use crate::random::Random;
+
+/// The job of a seed, tried in every way.
+pub fn seed(bench: &mut Bench, seed: u64) -> Result<(), String> {
+    bench.present.seed(seed);
+    let draft = guarded(|| Ok(generate::job(seed))).map_err(|why| seeded(seed, &[], why))?;
+    let stream = draft.stream();
+    let seen = guarded(|| bench.compare.job(&stream)).map_err(|why| seeded(seed, &sealed(&stream), why))?;
+    bench.seen.add(&seen);
+    let mut random = Random::new(!seed);
+    let file = spoiled_file(&draft, &mut random);
+    guarded(|| bench.compare.file(&file)).map_err(|why| seeded(seed, &file, why))?;
+    let stream = spoiled_stream(&draft, &mut random);
+    guarded(|| bench.compare.write(&stream, FILE_LIMIT)).map_err(|why| seeded(seed, &stream, why))?;
+    Ok(())
+}
+
+/// A file in which a few bytes are changed, mostly with right sums.
+fn spoiled_file(draft: &Draft, random: &mut Random) -> Vec<u8> {
+    let number = *random.pick(&damage::FILE_NUMBERS);
+    let faults: Vec<_> = damage::fault(number, draft, random).into_iter().collect();
+    let mut file = damage::file(draft, &faults);
+    if random.chance(4) && !file.is_empty() {
+        let at = random.below(file.len());
+        file[at] = random.byte();
+    }
+    file
+}
+
+fn spoiled_stream(draft: &Draft, random: &mut Random) -> Vec<u8> {
+    let mut stream = draft.stream();
+    for _ in 0..random.between(1, 3) {
+        let at = random.below(stream.len().min(64));
+        stream[at] = if random.chance(2) { random.byte() } else { random.below(10) as u8 };
+    }
+    stream
+}
+
+/// `count` jobs of one style, from the first seed of that style at or after `first`.
+pub fn of_style(bench: &mut Bench, style: Style, count: usize, first: u64) -> Result<usize, String> {
+    let round = STYLES.len() as u64;
+    let start = (first..first + round).find(|&seed| generate::style(seed) == style).expect("every round has every style");
+    for i in 0..count as u64 {
+        seed(bench, start + i * round)?;
+    }
+    Ok(count)
+}
+
+/// `count` jobs with seeds from `first` up.
+pub fn in_a_row(bench: &mut Bench, count: usize, first: u64) -> Result<usize, String> {
+    for i in 0..count as u64 {
+        seed(bench, first.wrapping_add(i))?;
+    }
+    Ok(count)
+}
+
+/// The jobs so far went through every row both ways and met every case of the record.
+pub fn reached(bench: &mut Bench) -> Result<usize, String> {
+    let Seen { rows, shared_lines, lines_of_eight, open_takers, open_puts, idle_steps } = &bench.seen;
+    println!(
+        "  lines with several takers {shared_lines}, with eight {lines_of_eight}; open takers {open_takers}, open puts {open_puts}"
+    );
+    if bench.seen.all() {
+        Ok(rows.as_flattened().iter().sum::<usize>() + idle_steps)
+    } else {
+        Err(format!("not all was met: {rows:?}"))
+    }
+}

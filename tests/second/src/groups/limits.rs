@@ -1,0 +1,39 @@
+//! The limits of document 01: P 8 taken, 9 is 6; N 256 taken, 257 is 7; S 16,384 taken, 16,385 is 8; work 17,709 is 1.
+
+use super::Bench;
+use crate::compare::{ENOUGH, Lent};
+use crate::file::{FILE_LIMIT, WORK, sealed};
+use crate::generate::{Draft, put, take};
+
+fn draft(processes: u8, operations: usize, steps: usize) -> Draft {
+    let record = |i: usize| if i.is_multiple_of(2) { put(0, i as u16) } else { take(0) };
+    Draft { kind: 1, processes, records: (0..operations).map(record).collect(), schedule: vec![0; steps] }
+}
+
+pub fn paper(bench: &mut Bench) -> Result<usize, String> {
+    let rows = [
+        (draft(8, 1, 1), 0),
+        (draft(9, 1, 1), 6),
+        (draft(0, 1, 1), 6),
+        (draft(1, 256, 1), 0),
+        (draft(1, 257, 1), 7),
+        (draft(1, 0, 1), 7),
+        (draft(1, 1, 16_384), 0),
+        (draft(1, 1, 16_385), 8),
+        (draft(8, 256, 16_384), 0),
+        (draft(8, 257, 16_385), 7),
+    ];
+    for (i, (draft, number)) in rows.iter().enumerate() {
+        let stream = draft.stream();
+        expect(*number, bench.compare.file(&sealed(&stream))?.number, i)?;
+        expect(*number, bench.compare.write(&stream, FILE_LIMIT)?.number, i)?;
+    }
+    let file = sealed(&draft(8, 256, 16_384).stream());
+    expect(1, bench.compare.replay(&file, Lent { work: WORK - 1, ..ENOUGH })?.number, rows.len())?;
+    expect(0, bench.compare.replay(&file, ENOUGH)?.number, rows.len())?;
+    Ok(rows.len() + 2)
+}
+
+fn expect(number: u32, answered: u32, row: usize) -> Result<(), String> {
+    if number == answered { Ok(()) } else { Err(format!("row {row}: {answered} in place of {number}")) }
+}

@@ -1,0 +1,40 @@
+//! The traces of document 01, against the texts of the paper, and the sample files.
+
+use super::Bench;
+use crate::compare::ENOUGH;
+use crate::file::sealed;
+use crate::samples;
+use std::fs;
+
+pub fn paper(bench: &mut Bench) -> Result<usize, String> {
+    let traces = samples::traces();
+    for trace in &traces {
+        let stream = trace.draft.stream();
+        bench.compare.job(&stream).map_err(|why| format!("{}: {why}", trace.name))?;
+        report_is(bench, trace.name, &sealed(&stream), trace.report.as_bytes())?;
+    }
+    Ok(traces.len())
+}
+
+/// The sample files of examples/, with the reports beside them.
+pub fn samples(bench: &mut Bench) -> Result<usize, String> {
+    let samples = samples::all();
+    for (name, draft) in &samples {
+        let read = |ending: &str| {
+            fs::read(format!("examples/{name}.{ending}")).map_err(|error| format!("examples/{name}.{ending}: {error}"))
+        };
+        let file = read("job")?;
+        if file != sealed(&draft.stream()) {
+            return Err(format!("examples/{name}.job is another job: sh tests/second/samples writes it"));
+        }
+        bench.compare.job(&draft.stream())?;
+        report_is(bench, name, &file, &read("txt")?)?;
+    }
+    Ok(samples.len())
+}
+
+fn report_is(bench: &mut Bench, name: &str, file: &[u8], report: &[u8]) -> Result<(), String> {
+    let answer = bench.compare.replay(file, ENOUGH)?;
+    let given = bench.compare.output(answer);
+    if given == report { Ok(()) } else { Err(format!("{name}: the report is\n{}", String::from_utf8_lossy(given))) }
+}

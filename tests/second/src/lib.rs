@@ -1,0 +1,22 @@
+//! A second replayer, written from document 01 alone, and what is needed to compare the library with it.
+//! The replayer: job, file, machine, queue, stack, report, calls. The tests: generate, damage, check, library, compare, failure.
+
+pub mod calls;
+pub mod check;
+pub mod compare;
+pub mod damage;
+pub mod failure;
+pub mod file;
+pub mod generate;
+pub mod groups;
+pub mod job;
+pub mod library;
+pub mod machine;
+pub mod queue;
+pub mod random;
+pub mod report;
+pub mod samples;
+pub mod speed;
+pub mod stack;
+pub mod text;
+pub mod watch;

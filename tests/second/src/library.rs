@@ -1,0 +1,33 @@
+//! The library under test, as its static archive exports it. A slice passes as a pointer and then a length.
+
+use crate::calls::Calls;
+
+unsafe extern "C" {
+    fn bench_replay(
+        file: *const u8,
+        file_length: usize,
+        work: *mut u8,
+        work_length: usize,
+        report: *mut u8,
+        report_length: usize,
+    ) -> u64;
+    fn bench_read(file: *const u8, file_length: usize, work: *mut u8, work_length: usize) -> u64;
+    fn bench_write(stream: *const u8, stream_length: usize, out: *mut u8, out_length: usize) -> u64;
+}
+
+pub const LIBRARY: Calls = Calls { replay, read, write };
+
+pub fn replay(file: &[u8], work: &mut [u8], report: &mut [u8]) -> u64 {
+    // SAFETY: each pointer and length is one slice's; the contracts ask nothing else of a caller.
+    unsafe { bench_replay(file.as_ptr(), file.len(), work.as_mut_ptr(), work.len(), report.as_mut_ptr(), report.len()) }
+}
+
+pub fn read(file: &[u8], work: &mut [u8]) -> u64 {
+    // SAFETY: as above.
+    unsafe { bench_read(file.as_ptr(), file.len(), work.as_mut_ptr(), work.len()) }
+}
+
+pub fn write(stream: &[u8], out: &mut [u8]) -> u64 {
+    // SAFETY: as above.
+    unsafe { bench_write(stream.as_ptr(), stream.len(), out.as_mut_ptr(), out.len()) }
+}

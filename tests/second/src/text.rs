@@ -1,0 +1,43 @@
+//! A text written into lent memory.
+
+pub struct Text<'a> {
+    memory: &'a mut [u8],
+    length: usize,
+}
+
+impl<'a> Text<'a> {
+    pub fn new(memory: &'a mut [u8]) -> Text<'a> {
+        Text { memory, length: 0 }
+    }
+
+    pub fn length(&self) -> usize {
+        self.length
+    }
+
+    #[inline]
+    pub fn words(&mut self, words: &str) {
+        self.memory[self.length..][..words.len()].copy_from_slice(words.as_bytes());
+        self.length += words.len();
+    }
+
+    #[inline]
+    pub fn number(&mut self, number: u16) {
+        let end = self.length + digits(number);
+        let mut rest = number;
+        for digit in self.memory[self.length..end].iter_mut().rev() {
+            *digit = b'0' + (rest % 10) as u8;
+            rest /= 10;
+        }
+        self.length = end;
+    }
+}
+
+fn digits(number: u16) -> usize {
+    match number {
+        0..10 => 1,
+        10..100 => 2,
+        100..1_000 => 3,
+        1_000..10_000 => 4,
+        10_000.. => 5,
+    }
+}

@@ -1,0 +1,97 @@
+//! What may be seen of a run, step by step. The replayer runs with `Nobody` watching, the checks with a log.
+
+use crate::machine::Answer;
+
+/// The rows of the two listings, by their names in document 01.
+#[derive(Clone, Copy, PartialEq, Eq, Debug)]
+#[rustfmt::skip]
+pub enum Row {
+    Q1, Q2, Q3, Q4, Q5,
+    T1, T2, T3, T4, T5,
+    P1, P2, P3, P4,
+    R1, R2, R3, R4, R5,
+}
+
+pub const ROWS: usize = 19;
+
+/// A cell of the shared memory.
+#[derive(Clone, Copy, PartialEq, Eq, Debug)]
+pub enum Cell {
+    Head,
+    Tail,
+    Top,
+    Next(u16),
+    Mark(u16),
+}
+
+pub trait Watch {
+    /// A step begins: its number, its process, and the operation with its row unless the step is idle.
+    fn step(&mut self, step: u16, process: u8, acting: Option<(u16, Row)>);
+    /// The step's one access: what the cell held, and what was written, if anything.
+    fn access(&mut self, cell: Cell, held: u16, wrote: Option<u16>);
+    /// The step ended its operation.
+    fn end(&mut self, answer: Answer);
+}
+
+pub struct Nobody;
+
+impl Watch for Nobody {
+    fn step(&mut self, _: u16, _: u8, _: Option<(u16, Row)>) {}
+    fn access(&mut self, _: Cell, _: u16, _: Option<u16>) {}
+    fn end(&mut self, _: Answer) {}
+}
+
+/// A read of a cell.
+pub fn read(watch: &mut impl Watch, cell: Cell, held: u16) -> u16 {
+    watch.access(cell, held, None);
+    held
+}
+
+/// "Set A from b to c" changes A only if it holds b; gives whether it changed.
+pub fn set(watch: &mut impl Watch, cell: Cell, held: &mut u16, from: u16, to: u16) -> bool {
+    let changed = *held == from;
+    watch.access(cell, *held, changed.then_some(to));
+    if changed {
+        *held = to;
+    }
+    changed
+}
+
+/// One step as it was seen.
+#[derive(Clone, Copy, Debug)]
+pub struct Event {
+    pub step: u16,
+    pub process: u8,
+    pub operation: u16,
+    pub row: Row,
+    pub cell: Cell,
+    pub held: u16,
+    pub wrote: Option<u16>,
+    pub answer: Option<Answer>,
+}
+
+/// The acting steps of a run, in order, and the number of all its steps.
+#[derive(Default)]
+pub struct Log {
+    pub events: Vec<Event>,
+    pub steps: u16,
+}
+
+impl Watch for Log {
+    fn step(&mut self, step: u16, process: u8, acting: Option<(u16, Row)>) {
+        self.steps = step;
+        if let Some((operation, row)) = acting {
+            let (cell, held, wrote, answer) = (Cell::Head, 0, None, None);
+            self.events.push(Event { step, process, operation, row, cell, held, wrote, answer });
+        }
+    }
+
+    fn access(&mut self, cell: Cell, held: u16, wrote: Option<u16>) {
+        let event = self.events.last_mut().expect("an access without a step");
+        (event.cell, event.held, event.wrote) = (cell, held, wrote);
+    }
+
+    fn end(&mut self, answer: Answer) {
+        self.events.last_mut().expect("an end without a step").answer = Some(answer);
+    }
+}
