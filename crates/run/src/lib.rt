@@ -2,10 +2,10 @@
 use hands::begin;
 use hands::next_operation;
 use job::Kind;
-use machine::Operation;
 use machine::Place;
 use machine::Process;
 use machine::Step;
+use place::advanced;
 use step::Stepped;
 ghost use mathlib.Core.Path.{_≡_};
 ghost use Prim.Native.Nat.{_+_, _*_, _<_, _≤_};
@@ -46,31 +46,25 @@ impl Object {
     }
 }
 
-// The place of process p after its step: further on in operation o, or before its next one.
+// The place of process p after its step: further on in its operation, or before its next one.
 fn follow(
     stream: &[u8],
     object: Kind,
     count: u16,
     p: Process,
-    o: Operation,
+    place: Place,
     ends: bool,
     s: Stepped,
 ) -> Place
-    requires { ⌜ Goes (now stream) object count (o .0) ⌝ }
-    ensures { λ r. ⌜ Follows (now (stream .entry)) (p .0) o ends s r ⌝ }
+    requires { ⌜ Goes (now stream) object count (place .operation .0) ⌝ }
+    ensures { λ r. ⌜ Follows (now (stream .entry)) (p .0) (place .operation) ends s r ⌝ }
 {
     if ends {
-        let q = next_operation(stream, count, p, o.0);
+        let q = next_operation(stream, count, p, place.operation.0);
         return begin(stream, object, q);
     }
     let row = s.row;
-    Place {
-        operation: o,
-        row,
-        h: s.h,
-        t: s.t,
-        n: s.n,
-    }
+    advanced(place, row, s.h, s.t, s.n)
 }
 
 // The first place of process p.
@@ -152,7 +146,7 @@ pub fn run_all(
             stands,
             by,
         );
-        let after = follow(stream, object, count, Process(p), o, ends, s);
+        let after = follow(stream, object, count, Process(p), place, ends, s);
         run.places[i] = after;
         head = s.head;
         tail = s.tail;

@@ -1,0 +1,2 @@
+-- A place in memory.
+pub mod Values

@@ -1,0 +1,2 @@
+-- Where a process stands once its step is made.
+pub mod Place
