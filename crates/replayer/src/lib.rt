@@ -16,7 +16,7 @@ ghost use Rattle.replayer.specs.Ready.{Ready};
 ghost use Rattle.replayer.specs.Replay.{least-report, job-in, replay-number, replay-length, replay-report, replay-work};
 
 // The least length of the report memory: no report of an accepted job is longer.
-const LEAST_REPORT: usize = 32768;
+pub const LEAST_REPORT: usize = 32768;
 
 // Runs the job of a stream in blank lent memory, and writes its report.
 fn replay_in(
