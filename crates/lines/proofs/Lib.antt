@@ -2,3 +2,4 @@
 pub mod Pieces
 pub mod Spaced
 pub mod Left
+pub mod Bounds

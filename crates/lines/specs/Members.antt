@@ -1,5 +1,7 @@
 -- The takers of an item and the items that are left, as the arrays that hold a run's outcome say them.
-use Prim.Native.Nat.{ℕ, _≤_, _<_}
+use mathlib.Core.Path.{_≡_}
+use mathlib.Core.Logic.{_≢_}
+use Prim.Native.Nat.{ℕ, _+_, _≤_, _<_}
 use mathlib.Core.Bool.{Bool, true}
 use mathlib.Core.List.{List}
 use lib.ListN.{length}
@@ -13,6 +15,18 @@ use Rattle.machine.specs.Left.{walk}
 -- the operations from 1 to `count` that took an item, ascending
 unfoldable pub takers-of : (ℕ → ℕ) → ℕ → ℕ → List ℕ
 takers-of taken count item = sift (λ o. same (taken o) item) (numbers count)
+
+-- where the takers of each item are: behind the first `skip` operations, and not among the last `beyond`
+pub record Bounds (taken : ℕ → ℕ) (count : ℕ) (skip beyond : ℕ → ℕ) : Type 0 where
+  pub from : (o : ℕ) → 1 ≤ o → o ≤ count → skip (taken o) < o
+  pub to : (o : ℕ) → 1 ≤ o → o ≤ count → o + beyond (taken o) ≤ count
+  pub skips : (i : ℕ) → skip i ≤ count
+  pub beyonds : (i : ℕ) → beyond i ≤ count
+
+-- a number was stored in a cell, if there is one: no cell reads as 0
+pub record Stored (before after : ℕ → ℕ) (i n : ℕ) : Type 0 where
+  pub here : after i ≤ n
+  pub elsewhere : (k : ℕ) → k ≢ i → after k ≡ before k
 
 -- is a node that is reached still there? "for a stack the unmarked nodes"
 unfoldable pub stays : Kind → (ℕ → ℕ) → ℕ → Bool

@@ -7,7 +7,7 @@ use text::put_bytes;
 use text::put_labelled;
 ghost use mathlib.Core.Path.{_≡_};
 ghost use mathlib.Core.List.{_++_};
-ghost use Prim.Native.Nat.{_+_, _≤_, _<_};
+ghost use Prim.Native.Nat.{ℕ, _+_, _≤_, _<_};
 ghost use lib.ListN.{length};
 ghost use Rattle.basics.specs.Text.{text, decimal};
 ghost use Rattle.basics.specs.Maps as Maps;
@@ -18,7 +18,7 @@ ghost use Rattle.machine.specs.Multiplicity.{Line};
 ghost use Rattle.machine.specs.Journal.{Answer};
 ghost use Rattle.machine.specs.Report.{centimetres, object-line, action-text, answer-text, progress-text, operation-line, spaced, effect-text, record-line, left-line};
 ghost use Rattle.lines.specs.Told.{said, Told, front-text};
-ghost use Rattle.lines.specs.Members.{takers-of, stays, left-from, Nodes};
+ghost use Rattle.lines.specs.Members.{takers-of, Bounds, Stored, stays, left-from, Nodes};
 
 // Where the record of an operation stands in a stream.
 fn record_at(o: Operation) -> usize
@@ -203,14 +203,58 @@ pub fn empty_line(out: &mut [u8], at: usize, s: Step, o: Operation) -> usize
     single_line(out, at, s, b" empty by ", o)
 }
 
+// What a cell holds, and 0 where there is none.
+fn cell(cells: &[u16], i: u16) -> u16
+    ensures { λ r. ⌜ r ≡ Maps.at (now (cells .entry)) i ⌝ }
+{
+    let place = i as usize;
+    if place < cells.len() {
+        return cells[place];
+    }
+    0
+}
+
+// Stores a number in a cell, if there is one.
+fn store(cells: &mut [u16], i: u16, n: u16)
+    ensures { λ _. ⌜ Stored (Maps.at (now (cells .entry))) (Maps.at (now (cells .exit))) i n ⌝ }
+{
+    let place = i as usize;
+    if place < cells.len() {
+        cells[place] = n;
+    }
+}
+
+// For each item, how many operations come before its first taker, and how many behind its last. An item past the cells has no bounds.
+pub fn bound_takers(skip: &mut [u16], beyond: &mut [u16], taken: &[u16], count: u16)
+    requires { ⌜ (count < length (now taken)) × ((i : ℕ) → Maps.at (now skip) i ≤ count) × ((i : ℕ) → Maps.at (now beyond) i ≤ count) ⌝ }
+    ensures { λ _. ⌜ Bounds (Maps.at (now (taken .entry))) count (Maps.at (now (skip .exit))) (Maps.at (now (beyond .exit))) ⌝ }
+{
+    let mut o: u16 = 0;
+    while o < count {
+        let rest = count - o;
+        store(skip, taken[rest as usize], rest - 1);
+        o += 1;
+        store(beyond, taken[o as usize], count - o);
+    }
+}
+
 // The takers of an item, ascending, each behind a space.
-fn put_takers(out: &mut [u8], at: usize, taken: &[u16], count: u16, item: Operation) -> usize
-    requires { ⌜ (count < length (now taken)) × (at + length (spaced (takers-of (Maps.at (now taken)) count (item .0))) ≤ length (now out)) ⌝ }
+fn put_takers(
+    out: &mut [u8],
+    at: usize,
+    taken: &[u16],
+    skip: &[u16],
+    beyond: &[u16],
+    count: u16,
+    item: Operation,
+) -> usize
+    requires { ⌜ (count < length (now taken)) × (at + length (spaced (takers-of (Maps.at (now taken)) count (item .0))) ≤ length (now out)) × Bounds (Maps.at (now taken)) count (Maps.at (now skip)) (Maps.at (now beyond)) ⌝ }
     ensures { λ r. ⌜ Wrote (now (out .entry)) (now (out .exit)) at r (spaced (takers-of (Maps.at (now (taken .entry))) count (item .0))) ⌝ }
 {
     let mut place = at;
-    let mut o: u16 = 0;
-    while o < count {
+    let mut o = cell(skip, item.0);
+    let end = count - cell(beyond, item.0);
+    while o < end {
         o += 1;
         if taken[o as usize] != item.0 {
             continue;
@@ -221,13 +265,21 @@ fn put_takers(out: &mut [u8], at: usize, taken: &[u16], count: u16, item: Operat
 }
 
 // What the takers of an item did.
-fn put_takes(out: &mut [u8], at: usize, taken: &[u16], count: u16, item: Operation) -> usize
-    requires { ⌜ (count < length (now taken)) × (at + length (effect-text (Line.takes (item .0) (takers-of (Maps.at (now taken)) count (item .0)))) ≤ length (now out)) ⌝ }
+fn put_takes(
+    out: &mut [u8],
+    at: usize,
+    taken: &[u16],
+    skip: &[u16],
+    beyond: &[u16],
+    count: u16,
+    item: Operation,
+) -> usize
+    requires { ⌜ (count < length (now taken)) × (at + length (effect-text (Line.takes (item .0) (takers-of (Maps.at (now taken)) count (item .0)))) ≤ length (now out)) × Bounds (Maps.at (now taken)) count (Maps.at (now skip)) (Maps.at (now beyond)) ⌝ }
     ensures { λ r. ⌜ Wrote (now (out .entry)) (now (out .exit)) at r (effect-text (Line.takes (item .0) (takers-of (Maps.at (now (taken .entry))) count (item .0)))) ⌝ }
 {
     let next = put_labelled(out, at, b" take ", item.0);
     let next = put_bytes(out, next, b" by");
-    put_takers(out, next, taken, count, item)
+    put_takers(out, next, taken, skip, beyond, count, item)
 }
 
 // The line of an item's takers.
@@ -236,14 +288,16 @@ pub fn take_line(
     at: usize,
     s: Step,
     taken: &[u16],
+    skip: &[u16],
+    beyond: &[u16],
     count: u16,
     item: Operation,
 ) -> usize
-    requires { ⌜ (count < length (now taken)) × (at + length (record-line (record { step = s .0; line = Line.takes (item .0) (takers-of (Maps.at (now taken)) count (item .0)) })) ≤ length (now out)) ⌝ }
+    requires { ⌜ (count < length (now taken)) × (at + length (record-line (record { step = s .0; line = Line.takes (item .0) (takers-of (Maps.at (now taken)) count (item .0)) })) ≤ length (now out)) × Bounds (Maps.at (now taken)) count (Maps.at (now skip)) (Maps.at (now beyond)) ⌝ }
     ensures { λ r. ⌜ Wrote (now (out .entry)) (now (out .exit)) at r (record-line (record { step = s .0; line = Line.takes (item .0) (takers-of (Maps.at (now (taken .entry))) count (item .0)) })) ⌝ }
 {
     let next = put_labelled(out, at, b"at ", s.0);
-    let next = put_takes(out, next, taken, count, item);
+    let next = put_takes(out, next, taken, skip, beyond, count, item);
     put_bytes(out, next, b"\n")
 }
 

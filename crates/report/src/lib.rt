@@ -2,6 +2,7 @@
 use job::Kind;
 use job::operations;
 use job::schedule_length;
+use lines::bound_takers;
 use lines::empty_line;
 use lines::left_line;
 use lines::object_line;
@@ -17,6 +18,7 @@ ghost use Rattle.basics.specs.Maps as Maps;
 ghost use Rattle.text.specs.Laid.{Wrote};
 ghost use Rattle.job.specs.Stream.{stream-length};
 ghost use Rattle.job.specs.Job.{job-of};
+ghost use Rattle.lines.specs.Members.{Bounds};
 ghost use Rattle.machine.specs.Run.{state-after};
 ghost use Rattle.machine.specs.Journal.{note};
 ghost use Rattle.machine.specs.Record.{line-at, lines-to};
@@ -24,6 +26,9 @@ ghost use Rattle.machine.specs.Left.{left};
 ghost use Rattle.machine.specs.Explained as Explained;
 ghost use Rattle.machine.specs.Report.{operation-line, operation-lines, record-lines, left-line, report};
 ghost use Rattle.report.specs.Holds.{MadeBy, Column, Holds, HoldsAnswers, HoldsEffects, Remembers, first-node, Reported};
+
+// The items whose takers are looked for between bounds: as many as a job has. Of any other, all operations are looked at.
+const ITEMS: usize = 257;
 
 // The object of a job.
 pub fn object_of(stream: &[u8]) -> Kind
@@ -100,12 +105,14 @@ fn step_line(
     start: &[u16],
     link: &[u16],
     taken: &[u16],
+    skip: &[u16],
+    beyond: &[u16],
     stands: &[u16],
     count: u16,
     s: Step,
     o: Operation,
 ) -> usize
-    requires { ⌜ MadeBy (job-of (now stream)) count (s .0) (o .0) × HoldsEffects (job-of (now stream)) (job-of (now stream) .steps) (now last) (now start) (now link) (now taken) (now stands) ⌝ }
+    requires { ⌜ MadeBy (job-of (now stream)) count (s .0) (o .0) × HoldsEffects (job-of (now stream)) (job-of (now stream) .steps) (now last) (now start) (now link) (now taken) (now stands) × Bounds (Maps.at (now taken)) count (Maps.at (now skip)) (Maps.at (now beyond)) ⌝ }
     requires { ⌜ at + length (record-lines (line-at (job-of (now stream)) (job-of (now stream) .steps) (s .0))) ≤ length (now out) ⌝ }
     ensures { λ r. ⌜ Wrote (now (out .entry)) (now (out .exit)) at r (record-lines (line-at (job-of (now (stream .entry))) (job-of (now (stream .entry)) .steps) (s .0))) ⌝ }
 {
@@ -122,7 +129,7 @@ fn step_line(
         if stands[item as usize] != s.0 {
             return at;
         }
-        return take_line(out, at, s, taken, count, Operation(item));
+        return take_line(out, at, s, taken, skip, beyond, count, Operation(item));
     }
     if last[i] != 0 {
         if start[i] == s.0 {
@@ -141,12 +148,14 @@ fn line_at(
     start: &[u16],
     link: &[u16],
     taken: &[u16],
+    skip: &[u16],
+    beyond: &[u16],
     stands: &[u16],
     by: &[u16],
     count: u16,
     s: Step,
 ) -> usize
-    requires { ⌜ (count ≡ job-of (now stream) .count) × Column 1 (job-of (now stream) .steps) (now by) (λ s. note (job-of (now stream)) s .by) × (1 ≤ s .0) × (s .0 ≤ job-of (now stream) .steps) ⌝ }
+    requires { ⌜ (count ≡ job-of (now stream) .count) × Column 1 (job-of (now stream) .steps) (now by) (λ s. note (job-of (now stream)) s .by) × (1 ≤ s .0) × (s .0 ≤ job-of (now stream) .steps) × Bounds (Maps.at (now taken)) count (Maps.at (now skip)) (Maps.at (now beyond)) ⌝ }
     requires { ⌜ HoldsEffects (job-of (now stream)) (job-of (now stream) .steps) (now last) (now start) (now link) (now taken) (now stands) ⌝ }
     requires { ⌜ at + length (record-lines (line-at (job-of (now stream)) (job-of (now stream) .steps) (s .0))) ≤ length (now out) ⌝ }
     ensures { λ r. ⌜ Wrote (now (out .entry)) (now (out .exit)) at r (record-lines (line-at (job-of (now (stream .entry))) (job-of (now (stream .entry)) .steps) (s .0))) ⌝ }
@@ -163,11 +172,57 @@ fn line_at(
         start,
         link,
         taken,
+        skip,
+        beyond,
         stands,
         count,
         s,
         Operation(o),
     )
+}
+
+// The record, in step order, with bounds on where each item's takers are.
+fn bounded_lines(
+    out: &mut [u8],
+    at: usize,
+    stream: &[u8],
+    last: &[u16],
+    start: &[u16],
+    link: &[u16],
+    taken: &[u16],
+    skip: &[u16],
+    beyond: &[u16],
+    stands: &[u16],
+    by: &[u16],
+    count: u16,
+    steps: u16,
+) -> usize
+    requires { ⌜ (count ≡ job-of (now stream) .count) × (steps ≡ job-of (now stream) .steps) × Column 1 (job-of (now stream) .steps) (now by) (λ s. note (job-of (now stream)) s .by) × Bounds (Maps.at (now taken)) count (Maps.at (now skip)) (Maps.at (now beyond)) ⌝ }
+    requires { ⌜ HoldsEffects (job-of (now stream)) (job-of (now stream) .steps) (now last) (now start) (now link) (now taken) (now stands) ⌝ }
+    requires { ⌜ at + length (record-lines (lines-to (job-of (now stream)) (job-of (now stream) .steps) steps)) ≤ length (now out) ⌝ }
+    ensures { λ r. ⌜ Wrote (now (out .entry)) (now (out .exit)) at r (record-lines (lines-to (job-of (now (stream .entry))) (job-of (now (stream .entry)) .steps) steps)) ⌝ }
+{
+    let mut place = at;
+    let mut s: u16 = 0;
+    while s < steps {
+        s += 1;
+        place = line_at(
+            out,
+            place,
+            stream,
+            last,
+            start,
+            link,
+            taken,
+            skip,
+            beyond,
+            stands,
+            by,
+            count,
+            Step(s),
+        );
+    }
+    place
 }
 
 // The record, in step order.
@@ -189,25 +244,24 @@ fn record_lines(
     requires { ⌜ at + length (record-lines (lines-to (job-of (now stream)) (job-of (now stream) .steps) steps)) ≤ length (now out) ⌝ }
     ensures { λ r. ⌜ Wrote (now (out .entry)) (now (out .exit)) at r (record-lines (lines-to (job-of (now (stream .entry))) (job-of (now (stream .entry)) .steps) steps)) ⌝ }
 {
-    let mut place = at;
-    let mut s: u16 = 0;
-    while s < steps {
-        s += 1;
-        place = line_at(
-            out,
-            place,
-            stream,
-            last,
-            start,
-            link,
-            taken,
-            stands,
-            by,
-            count,
-            Step(s),
-        );
-    }
-    place
+    let mut skip = [0u16; ITEMS];
+    let mut beyond = [0u16; ITEMS];
+    bound_takers(&mut skip, &mut beyond, taken, count);
+    bounded_lines(
+        out,
+        at,
+        stream,
+        last,
+        start,
+        link,
+        taken,
+        &skip,
+        &beyond,
+        stands,
+        by,
+        count,
+        steps,
+    )
 }
 
 // The node from which the items that are left are walked.

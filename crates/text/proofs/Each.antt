@@ -60,3 +60,15 @@ module _ {g : ℕ → List ℕ} {n i : ℕ} {before after : List ℕ} {at place 
 
   pub written-all : n ≤ i → Wrote before after at place (each-to g n)
   written-all h = subst (λ (m : ℕ). Wrote before after at place (each-to g m)) (let e : i ≡ n = omega (arith, w .up-to) in e) (w .wrote)
+
+-- texts that are all nothing, up to a number
+pub written-past : {g : ℕ → List ℕ} {n i : ℕ} {before after : List ℕ} {at place : ℕ} (m : ℕ) → Written g n i before after at place → i ≤ m → m ≤ n → ((k : ℕ) → i < k → k ≤ m → g k ≡ []) → Written g n m before after at place
+written-past {g} {n} {i} {before} {after} {at} {place} m w low high quiet = go m low high quiet
+  where
+    go : (m : ℕ) → i ≤ m → m ≤ n → ((k : ℕ) → i < k → k ≤ m → g k ≡ []) → Written g n m before after at place
+    go zero low high quiet = subst (λ (x : ℕ). Written g n x before after at place) (let e : i ≡ 0 = omega arith in e) w
+    go (suc m) low high quiet =
+        ⊎-elim
+        (λ (less : i ≤ m). subst (λ (x : ℕ). Written g n x before after at place) (add-one m) (written-same (go m less (omega arith) (λ k l h. quiet k l (omega arith))) (omega arith) (quiet (m + 1) (omega arith) (omega arith))))
+        (λ (all : m < i). subst (λ (x : ℕ). Written g n x before after at place) (let e : i ≡ suc m = omega arith in e) w)
+        (compare i m)

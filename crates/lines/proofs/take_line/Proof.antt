@@ -15,14 +15,14 @@ slice-aggregate-put-labelled c = search needs
 put-labelled-requires : tie.Need-put-labelled-requires
 unfolding text record-line
 put-labelled-requires c κs =
-    let start = c .before .before .before .before in
+    let start = c .before .before .before .before .before .before in
     omega (arith, simp length-append at (start .pre .1))
 
 put-takes-requires : tie.Need-put-takes-requires
 unfolding text record-line
 put-takes-requires c κs =
-    let start = c .before .before .before .before .before .before .before .before in
-    (start .pre .0, omega (arith, simp length-append at (start .pre .1)))
+    let start = c .before .before .before .before .before .before .before .before .before .before in
+    (start .pre .0, omega (arith, simp length-append at (start .pre .1)), start .pre .2)
 
 slice-aggregate-put-bytes : tie.Need-slice-aggregate-put-bytes
 slice-aggregate-put-bytes c = search needs
@@ -30,7 +30,7 @@ slice-aggregate-put-bytes c = search needs
 put-bytes-requires : tie.Need-put-bytes-requires
 unfolding text record-line
 put-bytes-requires c κs =
-    let start = c .before .before .before .before .before .before .before .before .before .before .before .before .before in
+    let start = c .before .before .before .before .before .before .before .before .before .before .before .before .before .before .before in
     omega (arith, simp length-append at (start .pre .1))
 
 same-length : tie.Need-same-length
@@ -38,7 +38,7 @@ same-length c = search needs
 
 returns : tie.Need-returns
 unfolding text record-line
-returns c = wrote-three refl (c .before .before .before .before .before .before .before .before .before .before .before .before .before .before .before .before .pre .1) (c .before .before .before .before .before .before .before .before .before .before .before .put-labelled .ensures) (c .before .before .before .before .before .before .before .put-takes .ensures) (c .before .before .put-bytes .ensures)
+returns c = wrote-three refl (c .before .before .before .before .before .before .before .before .before .before .before .before .before .before .before .before .before .before .pre .1) (c .before .before .before .before .before .before .before .before .before .before .before .put-labelled .ensures) (c .before .before .before .before .before .before .before .put-takes .ensures) (c .before .before .put-bytes .ensures)
 
 pub take-line-spec : {M : Type 1} → statement M
 take-line-spec =

@@ -20,7 +20,7 @@ shared-slice-read-o c = search needs
 returns : tie.Need-returns
 unfolding at
 returns c =
-    let start = c .before .before .before .before .before .before .before .before .before .before .before in
+    let start = c .before .before .before .before .before .before .before .before .before .before .before .before .before in
     let job = job-of (start .args .stream .now) in
     let of = start .pre .0 in
     wrote-as (sym (idle-text job (of .1) (start .args .s .0) (of .2) (of .3) (job .steps) (of .3) (c .if1 .taken))) (wrote-nothing _ _)
@@ -28,10 +28,10 @@ returns c =
 step-line-requires : tie.Need-step-line-requires
 unfolding at
 step-line-requires c κs =
-    let start = c .before .before .before .before .before .before .before .before .before .before .before .before in
+    let start = c .before .before .before .before .before .before .before .before .before .before .before .before .before .before in
     let job = job-of (start .args .stream .now) in
     let of = start .pre .0 in
-    ((maker-held job (of .1) (start .args .s .0) (of .2) (of .3) (of .0) (c .before .if1 .left), start .pre .1 .0), start .pre .1 .1)
+    ((maker-held job (of .1) (start .args .s .0) (of .2) (of .3) (of .0) (c .before .if1 .left), start .pre .1 .0, of .4), start .pre .1 .1)
 
 same-length : tie.Need-same-length
 same-length c = search needs

@@ -1,64 +1,45 @@
--- `report::record_lines` meets its contract. The loop's invariant: the lines of the steps up to `s` are written. The measure is how many
--- steps are left. Assumes nothing.
-use mathlib.Core.Path.{ap}
-use Prim.Native.Nat.{_-_}
+-- `report::record_lines` meets its contract: fresh cells are within every bound. Assumes nothing.
 use native.Mathlib.Omega.{arith}
-use lib.ListN.{length}
-use Rattle.job.specs.Job.{job-of}
-use Rattle.text.proofs.Laid.{wrote-as}
-use Rattle.text.proofs.Each.{Written, written-none, written-room, written-more, written-all}
-use Rattle.report.proofs.Steps.{step-text, record-is-each}
+use borrow.Author.Needs.{needs}
+use Rattle.lines.proofs.Bounds.{zeros-within}
 use Rattle.report.proofs.record_lines.Statement.{statement}
 use Rattle.report.proofs.record_lines.Tie as tie
 
-abbrev Inv-loop : tie.InvT-loop
-Inv-loop out₀ at stream last start link taken stands by count steps place₀ s₀ out place s =
-    Written (step-text (job-of stream) (job-of stream .steps)) steps s out₀ out at place
+slice-aggregate-bound-takers : tie.Need-slice-aggregate-bound-takers
+slice-aggregate-bound-takers c = search needs
 
-abbrev μ-loop : tie.MeasureT-loop
-μ-loop out₀ at stream last start link taken stands by count steps place₀ s₀ out place s = steps - s
+slice-aggregate-bound-takers-2 : tie.Need-slice-aggregate-bound-takers-2
+slice-aggregate-bound-takers-2 c = search needs
 
-loop-holds : tie.Need-loop-holds Inv-loop μ-loop
-loop-holds c =
-    let start = c .before .before .before .before .before .before .before .before in
-    let job = job-of (start .args .stream .now) in
-    written-none _ _ _ _ (omega (arith, ap length (record-is-each job (job .steps) (start .args .steps))))
-
-add-s : tie.Need-add-s Inv-loop μ-loop
-add-s c = omega arith
-
-line-at-requires : tie.Need-line-at-requires Inv-loop μ-loop
-line-at-requires c κs =
-    let start = c .before .before .before .before .before .before .before .before .before .before .before in
-    let job = job-of (start .args .stream .now) in
-    let room = written-room (c .before .before .loop .inv) (c .before .loop-test .taken) in
-    ((start .pre .0 .0, start .pre .0 .2, omega arith, omega (arith, start .pre .0 .1)), (start .pre .1 .0, room))
-
-loop-less : tie.Need-loop-less Inv-loop μ-loop
-loop-less c = omega arith
-
-loop-again : tie.Need-loop-again Inv-loop μ-loop
-loop-again c = written-more (c .before .before .before .before .before .loop .inv) (c .before .before .before .before .loop-test .taken) (c .before .before .line-at .ensures)
-
-same-length : tie.Need-same-length Inv-loop μ-loop
-same-length c = c .before .loop .inv .wrote .as-long
-
-returns : tie.Need-returns Inv-loop μ-loop
-returns c =
+bound-takers-requires : tie.Need-bound-takers-requires
+bound-takers-requires c κs =
     let start = c .before .before .before .before .before .before .before .before .before .before in
-    let job = job-of (start .args .stream .now) in
-    wrote-as (record-is-each job (job .steps) (start .args .steps)) (written-all (c .before .loop .inv) (c .loop-test .left))
+    (omega (arith, start .pre .0 .0, start .pre .1 .0 .items .long), zeros-within 257 (start .args .count), zeros-within 257 (start .args .count))
+
+slice-aggregate-bounded-lines : tie.Need-slice-aggregate-bounded-lines
+slice-aggregate-bounded-lines c = search needs
+
+slice-aggregate-bounded-lines-2 : tie.Need-slice-aggregate-bounded-lines-2
+slice-aggregate-bounded-lines-2 c = search needs
+
+bounded-lines-requires : tie.Need-bounded-lines-requires
+bounded-lines-requires c κs = search needs
+
+same-length : tie.Need-same-length
+same-length c = search needs
+
+returns : tie.Need-returns
+returns c = search needs
 
 pub record-lines-spec : {M : Type 1} → statement M
 record-lines-spec =
     tie.close
     (tie.spec
-    Inv-loop
-    μ-loop
-    loop-holds
-    add-s
-    line-at-requires
-    loop-less
-    loop-again
+    slice-aggregate-bound-takers
+    slice-aggregate-bound-takers-2
+    bound-takers-requires
+    slice-aggregate-bounded-lines
+    slice-aggregate-bounded-lines-2
+    bounded-lines-requires
     same-length
     returns)

@@ -21,7 +21,7 @@ shared-slice-read-linked c = search needs
 returns : tie.Need-returns
 unfolding at
 returns c =
-    let start = c .before .before .before .before .before .before .before .before .before .before .before .before in
+    let start = c .before .before .before .before .before .before .before .before .before .before .before .before .before .before in
     let of = start .pre .0 .0 in
     let held = start .pre .0 .1 in
     wrote-as (sym (put-elsewhere held (start .args .s .0) (start .args .o .0) (of .operation) (of .made) (c .before .before .if1 .taken) (c .if2 .taken))) (wrote-nothing _ _)
@@ -29,7 +29,7 @@ returns c =
 put-line-requires : tie.Need-put-line-requires
 unfolding at
 put-line-requires c κs =
-    let start = c .before .before .before .before .before .before .before .before .before .before .before .before .before in
+    let start = c .before .before .before .before .before .before .before .before .before .before .before .before .before .before .before in
     let of = start .pre .0 .0 in
     let held = start .pre .0 .1 in
     let same = put-here held (start .args .s .0) (start .args .o .0) (of .operation) (of .made) (c .before .before .before .if1 .taken) (c .before .if2 .left) in
@@ -41,7 +41,7 @@ same-length c = search needs
 returns-2 : tie.Need-returns-2
 unfolding at
 returns-2 c =
-    let start = c .before .before .before .before .before .before .before .before .before .before .before .before .before .before .before .before in
+    let start = c .before .before .before .before .before .before .before .before .before .before .before .before .before .before .before .before .before .before in
     let of = start .pre .0 .0 in
     let held = start .pre .0 .1 in
     wrote-as (put-here held (start .args .s .0) (start .args .o .0) (of .operation) (of .made) (c .before .before .before .before .before .before .if1 .taken) (c .before .before .before .before .if2 .left)) (c .before .before .put-line .ensures)
@@ -55,7 +55,7 @@ shared-slice-read-item c = search needs
 cast-if4 : tie.Need-cast-if4
 unfolding at
 cast-if4 c =
-    let start = c .before .before .before .before .before .before .before .before .before .before .before .before in
+    let start = c .before .before .before .before .before .before .before .before .before .before .before .before .before .before in
     let of = start .pre .0 .0 in
     let held = start .pre .0 .1 in
     omega (arith, item-held held (start .args .s .0) (start .args .o .0) (of .operation) (of .made) (c .if3 .taken) .to-count, held .lines .long)
@@ -63,7 +63,7 @@ cast-if4 c =
 mul-if4 : tie.Need-mul-if4
 unfolding at
 mul-if4 c =
-    let start = c .before .before .before .before .before .before .before .before .before .before .before .before in
+    let start = c .before .before .before .before .before .before .before .before .before .before .before .before .before .before in
     let of = start .pre .0 .0 in
     let held = start .pre .0 .1 in
     omega (arith, item-held held (start .args .s .0) (start .args .o .0) (of .operation) (of .made) (c .if3 .taken) .to-count, held .lines .long)
@@ -71,7 +71,7 @@ mul-if4 c =
 shared-slice-read-if4 : tie.Need-shared-slice-read-if4
 unfolding at
 shared-slice-read-if4 c =
-    let start = c .before .before .before .before .before .before .before .before .before .before .before .before .before in
+    let start = c .before .before .before .before .before .before .before .before .before .before .before .before .before .before .before in
     let of = start .pre .0 .0 in
     let held = start .pre .0 .1 in
     omega (arith, item-held held (start .args .s .0) (start .args .o .0) (of .operation) (of .made) (c .before .if3 .taken) .to-count, held .lines .long)
@@ -79,7 +79,7 @@ shared-slice-read-if4 c =
 returns-3 : tie.Need-returns-3
 unfolding at
 returns-3 c =
-    let start = c .before .before .before .before .before .before .before .before .before .before .before .before .before .before .before in
+    let start = c .before .before .before .before .before .before .before .before .before .before .before .before .before .before .before .before .before in
     let of = start .pre .0 .0 in
     let held = start .pre .0 .1 in
     wrote-as (sym (take-elsewhere held (start .args .s .0) (start .args .o .0) (of .operation) (of .made) (c .before .before .before .if3 .taken) (c .if4 .taken))) (wrote-nothing _ _)
@@ -87,11 +87,11 @@ returns-3 c =
 take-line-requires : tie.Need-take-line-requires
 unfolding at
 take-line-requires c κs =
-    let start = c .before .before .before .before .before .before .before .before .before .before .before .before .before .before .before .before in
+    let start = c .before .before .before .before .before .before .before .before .before .before .before .before .before .before .before .before .before .before in
     let of = start .pre .0 .0 in
     let held = start .pre .0 .1 in
     let same = take-here held (start .args .s .0) (start .args .o .0) (of .operation) (of .made) (of .its-count) (c .before .before .before .before .if3 .taken) (c .before .if4 .left) in
-    (omega (arith, of .its-count, held .items .long), omega (arith, ap length same, start .pre .1))
+    (omega (arith, of .its-count, held .items .long), omega (arith, ap length same, start .pre .1), start .pre .0 .2)
 
 same-length-2 : tie.Need-same-length-2
 same-length-2 c = search needs
@@ -99,7 +99,7 @@ same-length-2 c = search needs
 returns-4 : tie.Need-returns-4
 unfolding at
 returns-4 c =
-    let start = c .before .before .before .before .before .before .before .before .before .before .before .before .before .before .before .before .before .before .before in
+    let start = c .before .before .before .before .before .before .before .before .before .before .before .before .before .before .before .before .before .before .before .before .before in
     let of = start .pre .0 .0 in
     let held = start .pre .0 .1 in
     wrote-as (take-here held (start .args .s .0) (start .args .o .0) (of .operation) (of .made) (of .its-count) (c .before .before .before .before .before .before .before .if3 .taken) (c .before .before .before .before .if4 .left)) (c .before .before .take-line .ensures)
@@ -119,7 +119,7 @@ shared-slice-read-if6 c = search needs
 empty-line-requires : tie.Need-empty-line-requires
 unfolding at
 empty-line-requires c κs =
-    let start = c .before .before .before .before .before .before .before .before .before .before .before .before .before .before .before .before .before .before in
+    let start = c .before .before .before .before .before .before .before .before .before .before .before .before .before .before .before .before .before .before .before .before in
     let of = start .pre .0 .0 in
     let held = start .pre .0 .1 in
     let same = empty-here held (start .args .s .0) (start .args .o .0) (of .operation) (of .made) (c .before .before .before .before .before .before .before .before .if1 .left) (c .before .before .before .before .before .before .if3 .left) (c .before .before .before .before .if5 .taken) (c .before .if6 .taken) in
@@ -131,7 +131,7 @@ same-length-3 c = search needs
 returns-5 : tie.Need-returns-5
 unfolding at
 returns-5 c =
-    let start = c .before .before .before .before .before .before .before .before .before .before .before .before .before .before .before .before .before .before .before .before .before in
+    let start = c .before .before .before .before .before .before .before .before .before .before .before .before .before .before .before .before .before .before .before .before .before .before .before in
     let of = start .pre .0 .0 in
     let held = start .pre .0 .1 in
     wrote-as (empty-here held (start .args .s .0) (start .args .o .0) (of .operation) (of .made) (c .before .before .before .before .before .before .before .before .before .before .before .if1 .left) (c .before .before .before .before .before .before .before .before .before .if3 .left) (c .before .before .before .before .before .before .before .if5 .taken) (c .before .before .before .before .if6 .taken)) (c .before .before .empty-line .ensures)
@@ -139,7 +139,7 @@ returns-5 c =
 returns-6 : tie.Need-returns-6
 unfolding at
 returns-6 c =
-    let start = c .before .before .before .before .before .before .before .before .before .before .before .before .before .before .before .before .before in
+    let start = c .before .before .before .before .before .before .before .before .before .before .before .before .before .before .before .before .before .before .before in
     let of = start .pre .0 .0 in
     let held = start .pre .0 .1 in
     wrote-as (sym (empty-elsewhere held (start .args .s .0) (start .args .o .0) (of .operation) (of .made) (c .before .before .before .before .before .before .before .if1 .left) (c .before .before .before .before .before .if3 .left) (c .before .before .before .if5 .taken) (c .if6 .left))) (wrote-nothing _ _)
@@ -147,7 +147,7 @@ returns-6 c =
 returns-7 : tie.Need-returns-7
 unfolding at
 returns-7 c =
-    let start = c .before .before .before .before .before .before .before .before .before .before .before .before .before .before in
+    let start = c .before .before .before .before .before .before .before .before .before .before .before .before .before .before .before .before in
     let of = start .pre .0 .0 in
     let held = start .pre .0 .1 in
     wrote-as (sym (not-ended held (start .args .s .0) (start .args .o .0) (of .operation) (of .made) (c .before .before .before .before .if1 .left) (c .before .before .if3 .left) (c .if5 .left))) (wrote-nothing _ _)
