@@ -1,3 +1,4 @@
+-- `bench::bench_replay` meets its contract: the replay's contract, with its number and length packed. Assumes nothing.
 use mathlib.Core.Path.{sym, subst, _∙_}
 use Prim.Native.Nat.{ℕ, _^_, _<_}
 use Rattle.basics.specs.Maps.{at}
@@ -6,29 +7,20 @@ use Rattle.bench.proofs.Lengths.{replay-small}
 use borrow.Author.Needs.{needs}
 use Rattle.bench.proofs.bench_replay.Statement.{statement}
 use Rattle.bench.proofs.bench_replay.Tie as tie
-use Rattle.bench.proofs.bench_replay.Reads as reads
-use Rattle.bench.proofs.bench_replay.Lts as lts
-use Rattle.bench.proofs.pack.Reads as pack-reads
-use Rattle.replayer.proofs.replay.Reads as replay-reads
 
--- src/lib.rt:26:10
 replay-requires : tie.Need-replay-requires
 replay-requires c κs = search needs
 
--- src/lib.rt:26:5
 pack-requires : tie.Need-pack-requires
 unfolding at
 pack-requires c κs = subst (λ (n : ℕ). n < 2 ^ 32) (sym (c .before .before .before .before .replay .ensures .1 .0)) (replay-small (c .before .before .before .before .before .before .before .before .before .before .args .file .now) (c .before .before .before .before .before .before .before .before .before .before .args .work .now) (c .before .before .before .before .before .before .before .before .before .before .args .report .now) (record { byte = λ i. c .before .before .before .before .before .before .before .before .before .shared-slice-known .given i .fits }))
 
--- src/lib.rt:19:1
 same-length : tie.Need-same-length
 same-length c = search needs
 
--- src/lib.rt:19:1
 same-length-2 : tie.Need-same-length-2
 same-length-2 c = search needs
 
--- src/lib.rt:19:1
 returns : tie.Need-returns
 returns c =
     (c .pack .ensures ∙ (λ i. packed (c .before .before .before .before .before .replay .ensures .0 i) (c .before .before .before .before .before .replay .ensures .1 .0 i)), (c .before .before .before .before .before .replay .ensures .1 .1 .0, (c .before .before .before .before .before .replay .ensures .1 .1 .1 .0, λ e. c .before .before .before .before .before .replay .ensures .1 .1 .1 .1 (c .before .before .before .before .before .replay .ensures .0 ∙ e))))

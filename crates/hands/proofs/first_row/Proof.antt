@@ -1,34 +1,27 @@
+-- `hands::first_row` meets its contract: by the object and the action. Assumes nothing.
 use Rattle.machine.specs.Table.{first-row}
 use borrow.Author.Needs.{needs}
 use Rattle.hands.proofs.first_row.Statement.{statement}
 use Rattle.hands.proofs.first_row.Tie as tie
-use Rattle.hands.proofs.first_row.Reads as reads
-use Rattle.hands.proofs.first_row.Lts as lts
 
--- src/lib.rt:21:16
 enum-told : tie.Need-enum-told
 enum-told c = search needs
 
--- src/lib.rt:28:16
 enum-told-2 : tie.Need-enum-told-2
 enum-told-2 c = search needs
 
--- src/lib.rt:16:1
 returns : tie.Need-returns
 unfolding first-row
 returns c = rw (c .before .enum-told .given .1, c .if1 .taken)
 
--- src/lib.rt:16:1
 returns-2 : tie.Need-returns-2
 unfolding first-row
 returns-2 c = rw (c .before .enum-told .given .1, c .if1 .left)
 
--- src/lib.rt:16:1
 returns-3 : tie.Need-returns-3
 unfolding first-row
 returns-3 c = rw (c .before .enum-told2 .given .1, c .if2 .taken)
 
--- src/lib.rt:16:1
 returns-4 : tie.Need-returns-4
 unfolding first-row
 returns-4 c = rw (c .before .enum-told2 .given .1, c .if2 .left)

@@ -1,3 +1,4 @@
+-- `hands::next_operation` meets its contract: the loop's invariant is that the search from i on finds what the whole search finds; the measure is how many operations are left. Assumes nothing.
 use borrow.Author.Needs.{needs}
 use native.Mathlib.Omega.{arith}
 use mathlib.Core.Path.{sym, _∙_}
@@ -8,8 +9,6 @@ use Rattle.machine.specs.Run.{operation-after}
 use Rattle.hands.proofs.Hands.{search-from, search-begins, search-finds, search-passes, search-ends}
 use Rattle.hands.proofs.next_operation.Statement.{statement}
 use Rattle.hands.proofs.next_operation.Tie as tie
-use Rattle.hands.proofs.next_operation.Reads as reads
-use Rattle.hands.proofs.next_operation.Lts as lts
 
 abbrev Inv-loop : tie.InvT-loop
 Inv-loop stream count p o i₀ i =
@@ -18,47 +17,36 @@ Inv-loop stream count p o i₀ i =
 abbrev μ-loop : tie.MeasureT-loop
 μ-loop stream count p o i₀ i = (count + 1) - i
 
--- src/lib.rt:58:17
 add-i : tie.Need-add-i Inv-loop μ-loop
 add-i c = search needs
 
--- src/lib.rt:59:5
 loop-holds : tie.Need-loop-holds Inv-loop μ-loop
 loop-holds c = (search needs, search-begins _ _ _ (omega arith))
 
--- src/lib.rt:60:24
 cast-if1 : tie.Need-cast-if1 Inv-loop μ-loop
 cast-if1 c = search needs
 
--- src/lib.rt:60:19
 mul-if1 : tie.Need-mul-if1 Inv-loop μ-loop
 mul-if1 c = search needs
 
--- src/lib.rt:60:19
 add-if1 : tie.Need-add-if1 Inv-loop μ-loop
 add-if1 c = search needs
 
--- src/lib.rt:60:12
 shared-slice-read-if1 : tie.Need-shared-slice-read-if1 Inv-loop μ-loop
 shared-slice-read-if1 c = search needs
 
--- src/lib.rt:61:13
 returns : tie.Need-returns Inv-loop μ-loop
 returns c = sym (c .before .before .before .before .loop .inv .1 ∙ search-finds _ _ _ (omega arith) (c .if1 .taken))
 
--- src/lib.rt:63:9
 add-i-2 : tie.Need-add-i-2 Inv-loop μ-loop
 add-i-2 c = search needs
 
--- src/lib.rt:59:5
 loop-less : tie.Need-loop-less Inv-loop μ-loop
 loop-less c = search needs
 
--- src/lib.rt:59:5
 loop-again : tie.Need-loop-again Inv-loop μ-loop
 loop-again c = (search needs, c .before .before .before .before .loop .inv .1 ∙ search-passes _ _ _ (omega arith) (c .if1 .left))
 
--- src/lib.rt:54:1
 returns-2 : tie.Need-returns-2 Inv-loop μ-loop
 returns-2 c = sym (c .before .loop .inv .1 ∙ search-ends _ _ _ (omega arith))
 

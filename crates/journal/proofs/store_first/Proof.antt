@@ -1,35 +1,27 @@
+-- `journal::store_first` meets its contract: a cell that has a step keeps it, and one that has none gets this one. Assumes nothing.
 use Rattle.journal.proofs.Stores.{first-stored, first-kept}
 use borrow.Author.Needs.{needs}
 use Rattle.journal.proofs.store_first.Statement.{statement}
 use Rattle.journal.proofs.store_first.Tie as tie
-use Rattle.journal.proofs.store_first.Reads as reads
-use Rattle.journal.proofs.store_first.Lts as lts
 
--- src/lib.rt:25:8
 mul-if1 : tie.Need-mul-if1
 mul-if1 c = search needs
 
--- src/lib.rt:25:8
 slice-read-if1 : tie.Need-slice-read-if1
 slice-read-if1 c = search needs
 
--- src/lib.rt:26:9
 mul-cell : tie.Need-mul-cell
 mul-cell c = search needs
 
--- src/lib.rt:26:9
 slice-write-cell : tie.Need-slice-write-cell
 slice-write-cell c = search needs
 
--- src/lib.rt:20:1
 same-length : tie.Need-same-length
 same-length c = search needs
 
--- src/lib.rt:20:1
 returns : tie.Need-returns
 returns c = first-stored _ _ _ (search needs) (c .if1 .taken)
 
--- src/lib.rt:20:1
 returns-2 : tie.Need-returns-2
 returns-2 c = first-kept _ _ _ (c .if1 .left)
 

@@ -1,35 +1,27 @@
+-- `journal::store_later` meets its contract: the cell holds the later of its step and this one. Assumes nothing.
 use Rattle.journal.proofs.Stores.{later-stored, later-kept}
 use borrow.Author.Needs.{needs}
 use Rattle.journal.proofs.store_later.Statement.{statement}
 use Rattle.journal.proofs.store_later.Tie as tie
-use Rattle.journal.proofs.store_later.Reads as reads
-use Rattle.journal.proofs.store_later.Lts as lts
 
--- src/lib.rt:36:8
 mul-if1 : tie.Need-mul-if1
 mul-if1 c = search needs
 
--- src/lib.rt:36:8
 slice-read-if1 : tie.Need-slice-read-if1
 slice-read-if1 c = search needs
 
--- src/lib.rt:37:9
 mul-cell : tie.Need-mul-cell
 mul-cell c = search needs
 
--- src/lib.rt:37:9
 slice-write-cell : tie.Need-slice-write-cell
 slice-write-cell c = search needs
 
--- src/lib.rt:31:1
 same-length : tie.Need-same-length
 same-length c = search needs
 
--- src/lib.rt:31:1
 returns : tie.Need-returns
 returns c = later-stored _ _ _ (search needs) (c .if1 .taken)
 
--- src/lib.rt:31:1
 returns-2 : tie.Need-returns-2
 returns-2 c = later-kept _ _ _ (c .if1 .left)
 

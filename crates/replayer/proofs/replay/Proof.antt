@@ -1,51 +1,38 @@
+-- `replayer::replay` meets its contract: by the three ways in which a replay ends. Assumes nothing.
 use mathlib.Core.Path.{refl, sym, _∙_}
 use Rattle.replayer.specs.Replay.{least-report}
 use Rattle.replayer.proofs.Replied.{small-refused, read-refused, held-ready, accepted-replied}
 use borrow.Author.Needs.{needs}
 use Rattle.replayer.proofs.replay.Statement.{statement}
 use Rattle.replayer.proofs.replay.Tie as tie
-use Rattle.replayer.proofs.replay.Reads as reads
-use Rattle.replayer.proofs.replay.Lts as lts
-use Rattle.job.proofs.Reply.refused.Reads as refused-reads
-use Rattle.reader.proofs.read.Reads as read-reads
-use Rattle.replayer.proofs.replay_held.Reads as replay-held-reads
 
--- src/lib.rt:101:9
 refused-requires : tie.Need-refused-requires
 refused-requires c κs = search needs
 
--- src/lib.rt:101:9
 returns : tie.Need-returns
 unfolding least-report
 returns c = small-refused (c .before .before .before .before .before .args .file .now) (c .before .before .before .before .before .args .work .now) (c .before .before .before .before .before .args .report .now) (c .before .if1 .taken) (c .refused .ensures .0) (c .refused .ensures .1)
 
--- src/lib.rt:103:9
 read-requires : tie.Need-read-requires
 read-requires c κs = search needs
 
--- src/lib.rt:105:9
 same-length : tie.Need-same-length
 same-length c = search needs
 
--- src/lib.rt:105:9
 returns-2 : tie.Need-returns-2
 unfolding least-report
 returns-2 c = read-refused (c .before .before .before .before .before .before .before .before .before .before .args .file .now) (c .before .before .before .before .before .before .before .before .before .before .args .work .now) (c .before .before .before .before .before .before .before .before .before .before .args .report .now) (c .before .before .before .before .before .before .if1 .left) (c .before .before .before .before .read .ensures .0) (c .if2 .taken) (c .before .before .before .before .read .ensures .1 .0) (c .before .before .before .before .read .ensures .1 .1)
 
--- src/lib.rt:107:9
 replay-held-requires : tie.Need-replay-held-requires
 unfolding least-report
 replay-held-requires c κs = held-ready (c .before .before .before .before .before .before .before .before .before .before .before .before .args .file .now) (c .before .before .before .before .before .before .before .before .before .before .before .before .args .work .now) (c .before .before .before .before .before .before .before .before .before .before .before .before .args .report .now) (c .before .before .before .before .before .before .before .before .if1 .left) (sym (c .before .before .before .before .before .before .read .ensures .0) ∙ c .before .before .if2 .left) (c .before .before .before .before .before .before .read .last .1 .0) (c .before .before .before .before .before .before .read .ensures .1 .1) (c .before .before .before .before .before .before .read .kept .1 .0)
 
--- src/lib.rt:93:1
 same-length-2 : tie.Need-same-length-2
 same-length-2 c = search needs
 
--- src/lib.rt:93:1
 same-length-3 : tie.Need-same-length-3
 same-length-3 c = search needs
 
--- src/lib.rt:93:1
 returns-3 : tie.Need-returns-3
 unfolding least-report
 returns-3 c = accepted-replied (c .before .before .before .before .before .before .before .before .before .before .before .before .before .before .before .before .before .args .file .now) (c .before .before .before .before .before .before .before .before .before .before .before .before .before .before .before .before .before .args .work .now) (c .before .before .before .before .before .before .before .before .before .before .before .before .before .before .before .before .before .args .report .now) (c .before .before .before .before .before .before .before .before .before .before .before .before .before .if1 .left) (sym (c .before .before .before .before .before .before .before .before .before .before .before .read .ensures .0) ∙ c .before .before .before .before .before .before .before .if2 .left) (c .before .before .before .before .before .before .before .before .before .before .before .read .last .1 .0) (c .before .before .before .before .before .before .before .before .before .before .before .read .ensures .1 .1) refl (c .before .before .before .before .replay-held .ensures .0) (c .before .before .before .before .replay-held .ensures .1)

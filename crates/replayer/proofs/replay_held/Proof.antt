@@ -1,52 +1,40 @@
+-- `replayer::replay_held` meets its contract: the part that holds the stream is lent, and then cleared. Assumes nothing.
 use Rattle.block.specs.Block.{payload-size}
 use Rattle.job.specs.File.{most-blocks, most-stream}
 use Rattle.replayer.proofs.Cleared.{front-length, cleared}
 use borrow.Author.Needs.{needs}
 use Rattle.replayer.proofs.replay_held.Statement.{statement}
 use Rattle.replayer.proofs.replay_held.Tie as tie
-use Rattle.replayer.proofs.replay_held.Reads as reads
-use Rattle.replayer.proofs.replay_held.Lts as lts
-use Rattle.memory.proofs.clear.Reads as clear-reads
-use Rattle.replayer.proofs.replay_stream.Reads as replay-stream-reads
 
--- src/lib.rt:86:32
 slice-reshare-prefix-replay-stream : tie.Need-slice-reshare-prefix-replay-stream
 unfolding most-stream most-blocks payload-size
 slice-reshare-prefix-replay-stream c = c .before .before .pre .0
 
--- src/lib.rt:86:32
 slice-aggregate-replay-stream : tie.Need-slice-aggregate-replay-stream
 unfolding most-stream most-blocks payload-size
 slice-aggregate-replay-stream c = front-length (c .before .before .before .args .work .now) (c .before .before .before .pre .0)
 
--- src/lib.rt:86:9
 replay-stream-requires : tie.Need-replay-stream-requires
 unfolding most-stream most-blocks payload-size
 replay-stream-requires c κs = (c .before .before .before .before .pre .1, c .before .before .before .before .pre .2)
 
--- src/lib.rt:87:11
 slice-relend-prefix-clear : tie.Need-slice-relend-prefix-clear
 unfolding most-stream most-blocks payload-size
 slice-relend-prefix-clear c = c .before .before .before .before .before .before .before .pre .0
 
--- src/lib.rt:87:11
 slice-aggregate-clear : tie.Need-slice-aggregate-clear
 unfolding most-stream most-blocks payload-size
 slice-aggregate-clear c = front-length (c .before .before .before .before .before .before .before .before .args .work .now) (c .before .before .before .before .before .before .before .before .pre .0)
 
--- src/lib.rt:87:5
 clear-requires : tie.Need-clear-requires
 clear-requires c κs = search needs
 
--- src/lib.rt:81:1
 same-length : tie.Need-same-length
 same-length c = search needs
 
--- src/lib.rt:81:1
 same-length-2 : tie.Need-same-length-2
 same-length-2 c = search needs
 
--- src/lib.rt:81:1
 returns : tie.Need-returns
 unfolding most-stream most-blocks payload-size
 returns c = (c .before .before .before .before .before .before .replay-stream .ensures, cleared (c .before .before .before .before .before .before .before .before .before .before .before .args .work .now) (c .before .before .clear .last .0) (c .before .before .before .before .before .before .before .before .before .before .before .pre .0) (c .before .before .clear .ensures))

@@ -1,56 +1,42 @@
+-- `replayer::replay_stream` meets its contract: fresh memory is blank and large enough. Assumes nothing.
 use Rattle.replayer.proofs.Ready.{fresh-room, fresh-blank}
 use borrow.Author.Needs.{needs}
 use Rattle.replayer.proofs.replay_stream.Statement.{statement}
 use Rattle.replayer.proofs.replay_stream.Tie as tie
-use Rattle.replayer.proofs.replay_stream.Reads as reads
-use Rattle.replayer.proofs.replay_stream.Lts as lts
-use Rattle.replayer.proofs.replay_in.Reads as replay-in-reads
 
--- src/lib.rt:62:9
 slice-aggregate-replay-in : tie.Need-slice-aggregate-replay-in
 slice-aggregate-replay-in c = search needs
 
--- src/lib.rt:63:9
 slice-aggregate-replay-in-2 : tie.Need-slice-aggregate-replay-in-2
 slice-aggregate-replay-in-2 c = search needs
 
--- src/lib.rt:64:9
 slice-aggregate-replay-in-3 : tie.Need-slice-aggregate-replay-in-3
 slice-aggregate-replay-in-3 c = search needs
 
--- src/lib.rt:65:9
 slice-aggregate-replay-in-4 : tie.Need-slice-aggregate-replay-in-4
 slice-aggregate-replay-in-4 c = search needs
 
--- src/lib.rt:66:9
 slice-aggregate-replay-in-5 : tie.Need-slice-aggregate-replay-in-5
 slice-aggregate-replay-in-5 c = search needs
 
--- src/lib.rt:67:9
 slice-aggregate-replay-in-6 : tie.Need-slice-aggregate-replay-in-6
 slice-aggregate-replay-in-6 c = search needs
 
--- src/lib.rt:68:9
 slice-aggregate-replay-in-7 : tie.Need-slice-aggregate-replay-in-7
 slice-aggregate-replay-in-7 c = search needs
 
--- src/lib.rt:69:9
 slice-aggregate-replay-in-8 : tie.Need-slice-aggregate-replay-in-8
 slice-aggregate-replay-in-8 c = search needs
 
--- src/lib.rt:70:9
 slice-aggregate-replay-in-9 : tie.Need-slice-aggregate-replay-in-9
 slice-aggregate-replay-in-9 c = search needs
 
--- src/lib.rt:60:5
 replay-in-requires : tie.Need-replay-in-requires
 replay-in-requires c κs = (c .before .before .before .before .before .before .before .before .before .before .before .before .pre, (fresh-room, fresh-blank))
 
--- src/lib.rt:47:1
 same-length : tie.Need-same-length
 same-length c = search needs
 
--- src/lib.rt:47:1
 returns : tie.Need-returns
 returns c = search needs
 

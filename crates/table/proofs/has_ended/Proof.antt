@@ -1,3 +1,4 @@
+-- `table::has_ended` meets its contract: the ends come behind the rows of the table. Assumes nothing.
 use mathlib.Core.Path.{_≡_, refl, ap, _∙_}
 use lib.Dec.{leb}
 use Rattle.machine.specs.declared.Row.{Row}
@@ -7,9 +8,6 @@ use Rattle.machine.specs.Run.{ended}
 use borrow.Author.Needs.{needs}
 use Rattle.table.proofs.has_ended.Statement.{statement}
 use Rattle.table.proofs.has_ended.Tie as tie
-use Rattle.table.proofs.has_ended.Reads as reads
-use Rattle.table.proofs.has_ended.Lts as lts
-use Rattle.table.proofs.position.Reads as position-reads
 
 -- the ends, and they alone, come behind the table's nineteen rows
 behind-the-rows : (r : Row) → leb 19 (position r) ≡ ended r
@@ -38,11 +36,9 @@ behind-the-rows ItemN = refl
 behind-the-rows ItemT = refl
 behind-the-rows Empty = refl
 
--- src/lib.rt:175:14
 position-requires : tie.Need-position-requires
 position-requires c κs = search needs
 
--- src/lib.rt:172:1
 returns : tie.Need-returns
 returns c = ap (leb 19) (c .position .ensures) ∙ behind-the-rows _
 
