@@ -6,6 +6,7 @@ pub mod Table
 pub mod Access
 pub mod Run
 pub mod Journal
+pub mod Idle
 pub mod Effects
 pub mod Record
 pub mod Left
