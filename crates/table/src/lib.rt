@@ -5,8 +5,10 @@ use machine::Entry;
 use machine::Row;
 ghost use mathlib.Core.Path.{_≡_};
 ghost use mathlib.Core.Bool.{false};
-ghost use Rattle.machine.specs.Table.{position, row-of};
+ghost use Prim.Native.Nat.{_<_};
+ghost use Rattle.machine.specs.Table.{row-of};
 ghost use Rattle.machine.specs.Run.{ended};
+ghost use Rattle.table.specs.Position.{entry-at};
 
 // how many rows there are
 const COUNT: usize = 19;
@@ -128,49 +130,75 @@ const ROWS: [Entry; COUNT] = [
     },
 ];
 
-// A row's position in the table; the four ends come behind it.
-fn position(r: Row) -> usize
-    ensures { λ i. ⌜ i ≡ position r ⌝ }
+// The row at a position of the table.
+fn entry(i: usize) -> Entry
+    requires { ⌜ i < 19 ⌝ }
+    ensures { λ e. ⌜ e ≡ entry-at i ⌝ }
 {
-    match r {
-        Row::Q1 => 0,
-        Row::Q2 => 1,
-        Row::Q3 => 2,
-        Row::Q4 => 3,
-        Row::Q5 => 4,
-        Row::T1 => 5,
-        Row::T2 => 6,
-        Row::T3 => 7,
-        Row::T4 => 8,
-        Row::T5 => 9,
-        Row::P1 => 10,
-        Row::P2 => 11,
-        Row::P3 => 12,
-        Row::P4 => 13,
-        Row::R1 => 14,
-        Row::R2 => 15,
-        Row::R3 => 16,
-        Row::R4 => 17,
-        Row::R5 => 18,
-        Row::Done => 19,
-        Row::ItemN => 20,
-        Row::ItemT => 21,
-        Row::Empty => 22,
-    }
+    ROWS[i]
 }
 
-// The table's row for where an operation stands that has not ended.
+// The table's row for where an operation stands that has not ended. Each position stands in its arm, so that compiled code knows
+// the entry by the row and looks nothing up.
 pub fn row_of(r: Row) -> Entry
     requires { ⌜ ended r ≡ false ⌝ }
     ensures { λ e. ⌜ e ≡ row-of r ⌝ }
 {
-    let i = position(r);
-    ROWS[i]
+    match r {
+        Row::Q1 => entry(0),
+        Row::Q2 => entry(1),
+        Row::Q3 => entry(2),
+        Row::Q4 => entry(3),
+        Row::Q5 => entry(4),
+        Row::T1 => entry(5),
+        Row::T2 => entry(6),
+        Row::T3 => entry(7),
+        Row::T4 => entry(8),
+        Row::T5 => entry(9),
+        Row::P1 => entry(10),
+        Row::P2 => entry(11),
+        Row::P3 => entry(12),
+        Row::P4 => entry(13),
+        Row::R1 => entry(14),
+        Row::R2 => entry(15),
+        Row::R3 => entry(16),
+        Row::R4 => entry(17),
+        Row::R5 => entry(18),
+        // no caller has one of these: an operation that has ended makes no step
+        Row::Done => entry(0),
+        Row::ItemN => entry(0),
+        Row::ItemT => entry(0),
+        Row::Empty => entry(0),
+    }
 }
 
-// Has an operation at this row ended? The four ends come behind the table's rows.
+// Has an operation at this row ended?
 pub fn has_ended(r: Row) -> bool
     ensures { λ e. ⌜ e ≡ ended r ⌝ }
 {
-    COUNT <= position(r)
+    match r {
+        Row::Q1 => false,
+        Row::Q2 => false,
+        Row::Q3 => false,
+        Row::Q4 => false,
+        Row::Q5 => false,
+        Row::T1 => false,
+        Row::T2 => false,
+        Row::T3 => false,
+        Row::T4 => false,
+        Row::T5 => false,
+        Row::P1 => false,
+        Row::P2 => false,
+        Row::P3 => false,
+        Row::P4 => false,
+        Row::R1 => false,
+        Row::R2 => false,
+        Row::R3 => false,
+        Row::R4 => false,
+        Row::R5 => false,
+        Row::Done => true,
+        Row::ItemN => true,
+        Row::ItemT => true,
+        Row::Empty => true,
+    }
 }

@@ -1,46 +1,58 @@
--- `table::has_ended` meets its contract: the ends come behind the rows of the table. Assumes nothing.
-use mathlib.Core.Path.{_≡_, refl, ap, _∙_}
-use lib.Dec.{leb}
-use Rattle.machine.specs.declared.Row.{Row}
-use Rattle.machine.specs.declared.Row.the-variants.{Q1, Q2, Q3, Q4, Q5, T1, T2, T3, T4, T5, P1, P2, P3, P4, R1, R2, R3, R4, R5, Done, ItemN, ItemT, Empty}
-use Rattle.machine.specs.Table.{position}
-use Rattle.machine.specs.Run.{ended}
+-- `table::has_ended` meets its contract: the arm of a row knows the row. Assumes nothing.
+use mathlib.Core.Path.{sym, ap}
 use borrow.Author.Needs.{needs}
+use Rattle.machine.specs.Run.{ended}
 use Rattle.table.proofs.has_ended.Statement.{statement}
 use Rattle.table.proofs.has_ended.Tie as tie
 
--- the ends, and they alone, come behind the table's nineteen rows
-behind-the-rows : (r : Row) → leb 19 (position r) ≡ ended r
-unfolding position ended
-behind-the-rows Q1 = refl
-behind-the-rows Q2 = refl
-behind-the-rows Q3 = refl
-behind-the-rows Q4 = refl
-behind-the-rows Q5 = refl
-behind-the-rows T1 = refl
-behind-the-rows T2 = refl
-behind-the-rows T3 = refl
-behind-the-rows T4 = refl
-behind-the-rows T5 = refl
-behind-the-rows P1 = refl
-behind-the-rows P2 = refl
-behind-the-rows P3 = refl
-behind-the-rows P4 = refl
-behind-the-rows R1 = refl
-behind-the-rows R2 = refl
-behind-the-rows R3 = refl
-behind-the-rows R4 = refl
-behind-the-rows R5 = refl
-behind-the-rows Done = refl
-behind-the-rows ItemN = refl
-behind-the-rows ItemT = refl
-behind-the-rows Empty = refl
-
-position-requires : tie.Need-position-requires
-position-requires c κs = search needs
-
-returns : tie.Need-returns
-returns c = ap (leb 19) (c .position .ensures) ∙ behind-the-rows _
-
 pub has-ended-spec : {M : Type 1} → statement M
-has-ended-spec = tie.close (tie.spec position-requires returns)
+unfolding ended
+has-ended-spec =
+    tie.close
+    (tie.spec
+    (λ c. search needs)
+    (λ c. search needs)
+    (λ c. search needs)
+    (λ c. search needs)
+    (λ c. search needs)
+    (λ c. search needs)
+    (λ c. search needs)
+    (λ c. search needs)
+    (λ c. search needs)
+    (λ c. search needs)
+    (λ c. search needs)
+    (λ c. search needs)
+    (λ c. search needs)
+    (λ c. search needs)
+    (λ c. search needs)
+    (λ c. search needs)
+    (λ c. search needs)
+    (λ c. search needs)
+    (λ c. search needs)
+    (λ c. search needs)
+    (λ c. search needs)
+    (λ c. search needs)
+    (λ c. search needs)
+    (λ c. sym (ap ended (c .enum-told .given .1)))
+    (λ c. sym (ap ended (c .enum-told2 .given .1)))
+    (λ c. sym (ap ended (c .enum-told3 .given .1)))
+    (λ c. sym (ap ended (c .enum-told4 .given .1)))
+    (λ c. sym (ap ended (c .enum-told5 .given .1)))
+    (λ c. sym (ap ended (c .enum-told6 .given .1)))
+    (λ c. sym (ap ended (c .enum-told7 .given .1)))
+    (λ c. sym (ap ended (c .enum-told8 .given .1)))
+    (λ c. sym (ap ended (c .enum-told9 .given .1)))
+    (λ c. sym (ap ended (c .enum-told10 .given .1)))
+    (λ c. sym (ap ended (c .enum-told11 .given .1)))
+    (λ c. sym (ap ended (c .enum-told12 .given .1)))
+    (λ c. sym (ap ended (c .enum-told13 .given .1)))
+    (λ c. sym (ap ended (c .enum-told14 .given .1)))
+    (λ c. sym (ap ended (c .enum-told15 .given .1)))
+    (λ c. sym (ap ended (c .enum-told16 .given .1)))
+    (λ c. sym (ap ended (c .enum-told17 .given .1)))
+    (λ c. sym (ap ended (c .enum-told18 .given .1)))
+    (λ c. sym (ap ended (c .enum-told19 .given .1)))
+    (λ c. sym (ap ended (c .enum-told20 .given .1)))
+    (λ c. sym (ap ended (c .enum-told21 .given .1)))
+    (λ c. sym (ap ended (c .enum-told22 .given .1)))
+    (λ c. sym (ap ended (c .enum-told23 .given .1))))

@@ -1,62 +1,96 @@
--- `table::row_of` meets its contract: the position of a row that is no end is inside the table, and there the constant is the
--- definition's table. Assumes nothing.
-use mathlib.Core.Path.{_≡_, sym, ap, subst}
-use mathlib.Core.Bool.{Bool, true, false, true≢false}
-use Prim.Native.Nat.{ℕ, _<_}
-use native.Mathlib.Omega.{arith}
-use lib.Dec.{lit<}
-use lib.ListN.{getD}
+-- `table::row_of` meets its contract: the arm of a row knows the row, and looks it up at its position. Assumes nothing.
+use mathlib.Core.Path.{_≡_, refl, sym, ap, _∙_}
+use mathlib.Core.Bool.{true, false, true≢false}
+use Prim.Native.Nat.{ℕ}
 use borrow.Author.Needs.{needs}
 use Rattle.machine.specs.declared.Row.{Row}
-use Rattle.machine.specs.declared.Row.the-variants.{Q1, Q2, Q3, Q4, Q5, T1, T2, T3, T4, T5, P1, P2, P3, P4, R1, R2, R3, R4, R5, Done, ItemN, ItemT, Empty}
-use Rattle.machine.specs.declared.Access.the-variants.{ReadHead}
-use Rattle.machine.specs.Table.{row, table, position, row-of}
+use Rattle.machine.specs.declared.Entry.{Entry}
+use Rattle.machine.specs.Table.{position, row-of}
 use Rattle.machine.specs.Run.{ended}
+use Rattle.table.specs.Position.{entry-at}
 use Rattle.table.proofs.row_of.Statement.{statement}
 use Rattle.table.proofs.row_of.Tie as tie
 
-position-inside : (r : Row) → ended r ≡ false → position r < 19
-unfolding position ended
-position-inside Q1 e = lit< tt
-position-inside Q2 e = lit< tt
-position-inside Q3 e = lit< tt
-position-inside Q4 e = lit< tt
-position-inside Q5 e = lit< tt
-position-inside T1 e = lit< tt
-position-inside T2 e = lit< tt
-position-inside T3 e = lit< tt
-position-inside T4 e = lit< tt
-position-inside T5 e = lit< tt
-position-inside P1 e = lit< tt
-position-inside P2 e = lit< tt
-position-inside P3 e = lit< tt
-position-inside P4 e = lit< tt
-position-inside R1 e = lit< tt
-position-inside R2 e = lit< tt
-position-inside R3 e = lit< tt
-position-inside R4 e = lit< tt
-position-inside R5 e = lit< tt
-position-inside Done e = absurd (true≢false e)
-position-inside ItemN e = absurd (true≢false e)
-position-inside ItemT e = absurd (true≢false e)
-position-inside Empty e = absurd (true≢false e)
+-- the entry at a row's position is its row of the table
+found : {r s : Row} {e : Entry} {i : ℕ} → r ≡ s → e ≡ entry-at i → i ≡ position s → e ≡ row-of r
+unfolding row-of entry-at
+found {s = s} is looked at = looked ∙ ap entry-at at ∙ sym (ap row-of is)
 
-position-requires : tie.Need-position-requires
-position-requires c κs = search needs
-
-mul-result : tie.Need-mul-result
-mul-result c =
-    let inside : position (c .before .args .r) < 19 = position-inside (c .before .args .r) (c .before .pre) in
-    record { fits = omega (arith, c .position .ensures) }
-
-array-copy-out-result : tie.Need-array-copy-out-result
-array-copy-out-result c =
-    let inside : position (c .before .args .r) < 19 = position-inside (c .before .args .r) (c .before .pre) in
-    omega (arith, c .position .ensures)
-
-returns : tie.Need-returns
-unfolding row-of table row
-returns c = ap (λ (i : ℕ). getD table i (row ReadHead Q1 Q1)) (c .before .position .ensures)
+-- no arm of an end is come to
+never : {r s : Row} {A : Type 0} → r ≡ s → ended s ≡ true → ended r ≡ false → A
+never is end going = absurd (true≢false (sym end ∙ sym (ap ended is) ∙ going))
 
 pub row-of-spec : {M : Type 1} → statement M
-row-of-spec = tie.close (tie.spec position-requires mul-result array-copy-out-result returns)
+unfolding position ended
+row-of-spec =
+    tie.close
+    (tie.spec
+    (λ c. search needs)
+    (λ c κs. search needs)
+    (λ c. search needs)
+    (λ c κs. search needs)
+    (λ c. search needs)
+    (λ c κs. search needs)
+    (λ c. search needs)
+    (λ c κs. search needs)
+    (λ c. search needs)
+    (λ c κs. search needs)
+    (λ c. search needs)
+    (λ c κs. search needs)
+    (λ c. search needs)
+    (λ c κs. search needs)
+    (λ c. search needs)
+    (λ c κs. search needs)
+    (λ c. search needs)
+    (λ c κs. search needs)
+    (λ c. search needs)
+    (λ c κs. search needs)
+    (λ c. search needs)
+    (λ c κs. search needs)
+    (λ c. search needs)
+    (λ c κs. search needs)
+    (λ c. search needs)
+    (λ c κs. search needs)
+    (λ c. search needs)
+    (λ c κs. search needs)
+    (λ c. search needs)
+    (λ c κs. search needs)
+    (λ c. search needs)
+    (λ c κs. search needs)
+    (λ c. search needs)
+    (λ c κs. search needs)
+    (λ c. search needs)
+    (λ c κs. search needs)
+    (λ c. search needs)
+    (λ c κs. search needs)
+    (λ c. search needs)
+    (λ c κs. search needs)
+    (λ c. search needs)
+    (λ c κs. search needs)
+    (λ c. search needs)
+    (λ c κs. search needs)
+    (λ c. search needs)
+    (λ c κs. search needs)
+    (λ c. found (c .before .enum-told .given .1) (c .entry .ensures) refl)
+    (λ c. found (c .before .enum-told2 .given .1) (c .entry2 .ensures) refl)
+    (λ c. found (c .before .enum-told3 .given .1) (c .entry3 .ensures) refl)
+    (λ c. found (c .before .enum-told4 .given .1) (c .entry4 .ensures) refl)
+    (λ c. found (c .before .enum-told5 .given .1) (c .entry5 .ensures) refl)
+    (λ c. found (c .before .enum-told6 .given .1) (c .entry6 .ensures) refl)
+    (λ c. found (c .before .enum-told7 .given .1) (c .entry7 .ensures) refl)
+    (λ c. found (c .before .enum-told8 .given .1) (c .entry8 .ensures) refl)
+    (λ c. found (c .before .enum-told9 .given .1) (c .entry9 .ensures) refl)
+    (λ c. found (c .before .enum-told10 .given .1) (c .entry10 .ensures) refl)
+    (λ c. found (c .before .enum-told11 .given .1) (c .entry11 .ensures) refl)
+    (λ c. found (c .before .enum-told12 .given .1) (c .entry12 .ensures) refl)
+    (λ c. found (c .before .enum-told13 .given .1) (c .entry13 .ensures) refl)
+    (λ c. found (c .before .enum-told14 .given .1) (c .entry14 .ensures) refl)
+    (λ c. found (c .before .enum-told15 .given .1) (c .entry15 .ensures) refl)
+    (λ c. found (c .before .enum-told16 .given .1) (c .entry16 .ensures) refl)
+    (λ c. found (c .before .enum-told17 .given .1) (c .entry17 .ensures) refl)
+    (λ c. found (c .before .enum-told18 .given .1) (c .entry18 .ensures) refl)
+    (λ c. found (c .before .enum-told19 .given .1) (c .entry19 .ensures) refl)
+    (λ c. never (c .before .enum-told20 .given .1) refl (c .before .before .before .pre))
+    (λ c. never (c .before .enum-told21 .given .1) refl (c .before .before .before .pre))
+    (λ c. never (c .before .enum-told22 .given .1) refl (c .before .before .before .pre))
+    (λ c. never (c .before .enum-told23 .given .1) refl (c .before .before .before .pre)))

@@ -1,0 +1,2 @@
+-- The step table by position.
+pub mod Position
