@@ -46,6 +46,15 @@ impl Object {
     }
 }
 
+// The place of process p before the operation that comes after operation o.
+fn place_after(stream: &[u8], object: Kind, count: u16, p: Process, o: u16) -> Place
+    requires { ⌜ Goes (now stream) object count o ⌝ }
+    ensures { λ r. ⌜ r ≡ before (job-of (now (stream .entry))) (operation-after (job-of (now (stream .entry))) (p .0) o) ⌝ }
+{
+    let q = next_operation(stream, count, p, o);
+    begin(stream, object, q)
+}
+
 // The place of process p after its step: further on in its operation, or before its next one.
 fn follow(
     stream: &[u8],
@@ -60,20 +69,10 @@ fn follow(
     ensures { λ r. ⌜ Follows (now (stream .entry)) (p .0) (place .operation) ends s r ⌝ }
 {
     if ends {
-        let q = next_operation(stream, count, p, place.operation.0);
-        return begin(stream, object, q);
+        return place_after(stream, object, count, p, place.operation.0);
     }
     let row = s.row;
     advanced(place, row, s.h, s.t, s.n)
-}
-
-// The first place of process p.
-fn first_place(stream: &[u8], object: Kind, count: u16, p: u8) -> Place
-    requires { ⌜ Goes (now stream) object count 0 ⌝ }
-    ensures { λ r. ⌜ r ≡ before (job-of (now (stream .entry))) (operation-after (job-of (now (stream .entry))) p 0) ⌝ }
-{
-    let o = next_operation(stream, count, Process(p), 0);
-    begin(stream, object, o)
 }
 
 // Every process before its first operation.
@@ -81,11 +80,11 @@ fn line_up(stream: &[u8], object: Kind, count: u16) -> Run
     requires { ⌜ Goes (now stream) object count 0 ⌝ }
     ensures { λ r. ⌜ InPlace (job-of (now (stream .entry))) 0 (r .places) ⌝ }
 {
-    let first = first_place(stream, object, count, 0);
+    let first = place_after(stream, object, count, Process(0), 0);
     let mut run = Run { places: [first; 8] };
     let mut p: u8 = 1;
     while p < 8 {
-        let place = first_place(stream, object, count, p);
+        let place = place_after(stream, object, count, Process(p), 0);
         run.places[p as usize] = place;
         p += 1;
     }

@@ -14,14 +14,14 @@ Inv-loop stream object count run₀ p₀ run p = (p ≤ 8) × LinedUp (job-of st
 abbrev μ-loop : tie.MeasureT-loop
 μ-loop stream object count run₀ p₀ run p = 8 - p
 
-first-place-requires : tie.Need-first-place-requires Inv-loop μ-loop
-first-place-requires c κs = search needs
+place-after-requires : tie.Need-place-after-requires Inv-loop μ-loop
+place-after-requires c κs = search needs
 
 loop-holds : tie.Need-loop-holds Inv-loop μ-loop
-loop-holds c = (search needs, lined-first _ _ (c .first-place .ensures))
+loop-holds c = (search needs, lined-first _ _ (c .place-after .ensures))
 
-first-place-requires-2 : tie.Need-first-place-requires-2 Inv-loop μ-loop
-first-place-requires-2 c κs = search needs
+place-after-requires-2 : tie.Need-place-after-requires-2 Inv-loop μ-loop
+place-after-requires-2 c κs = search needs
 
 cast-place : tie.Need-cast-place Inv-loop μ-loop
 cast-place c = search needs
@@ -40,7 +40,7 @@ loop-less c = search needs
 
 loop-again : tie.Need-loop-again Inv-loop μ-loop
 unfolding most-processes
-loop-again c = (search needs, lined-next _ _ _ _ (omega arith) (c .before .before .loop .inv .1) (c .first-place2 .ensures))
+loop-again c = (search needs, lined-next _ _ _ _ (omega arith) (c .before .before .loop .inv .1) (c .place-after2 .ensures))
 
 returns : tie.Need-returns Inv-loop μ-loop
 unfolding most-processes
@@ -52,9 +52,9 @@ line-up-spec =
     (tie.spec
     Inv-loop
     μ-loop
-    first-place-requires
+    place-after-requires
     loop-holds
-    first-place-requires-2
+    place-after-requires-2
     cast-place
     mul-place
     element-set-from-place

@@ -1,10 +1,10 @@
--- `run::first_place` meets its contract: the search's result is an operation or the number after them, so its record can be read. Assumes nothing.
+-- `run::place_after` meets its contract: the search's result is an operation or the number after them, so its record can be read. Assumes nothing.
 use mathlib.Core.Path.{ap, _∙_}
 use Rattle.machine.specs.Run.{before}
 use Rattle.run.proofs.Bounds.{next-in-stream}
 use borrow.Author.Needs.{needs}
-use Rattle.run.proofs.first_place.Statement.{statement}
-use Rattle.run.proofs.first_place.Tie as tie
+use Rattle.run.proofs.place_after.Statement.{statement}
+use Rattle.run.proofs.place_after.Tie as tie
 
 next-operation-requires : tie.Need-next-operation-requires
 next-operation-requires c κs = search needs
@@ -15,5 +15,5 @@ begin-requires c κs = (next-in-stream _ _ _ _ _ (c .before .before .pre) (c .ne
 returns : tie.Need-returns
 returns c = c .begin .ensures ∙ ap (before _) (c .before .next-operation .ensures)
 
-pub first-place-spec : {M : Type 1} → statement M
-first-place-spec = tie.close (tie.spec next-operation-requires begin-requires returns)
+pub place-after-spec : {M : Type 1} → statement M
+place-after-spec = tie.close (tie.spec next-operation-requires begin-requires returns)
