@@ -1,10 +1,10 @@
 -- What the run of a job needs of its stream and its lent memory, and what it leaves there: the definition's state and journal.
 use mathlib.Core.Path.{_≡_}
 use Prim.Native.Nat.{ℕ, _+_, _*_, _≤_, _<_}
-use mathlib.Core.Bool.{Bool}
-use mathlib.Core.List.{List}
+use mathlib.Core.Bool.{Bool, true, _&&_}
+use mathlib.Core.List.{List, [], _∷_}
 use lib.ListN.{length, getD}
-use Rattle.basics.specs.Choice.{pick}
+use Rattle.basics.specs.Choice.{pick, less}
 use Rattle.basics.specs.Maps.{at}
 use Rattle.job.specs.declared.Kind.{Kind}
 use Rattle.job.specs.Stream.{operations, schedule-length, scheduled}
@@ -43,6 +43,11 @@ nowhere = record { operation = record { 0 = 0 }; row = Q1; h = 0; t = 0; n = 0 }
 pub record InPlace (j : Job) (k : ℕ) (places : List Place) : Type 0 where
   pub eight : length places ≡ most-processes
   pub each : (p : ℕ) → p < most-processes → getD places p nowhere ≡ state-after j k .places p
+
+-- has every process come to the end of its operations: does each place stand at an operation past the last?
+unfoldable pub all-rest : ℕ → List Place → Bool
+all-rest count [] = true
+all-rest count (place ∷ places) = less count (place .operation .0) && all-rest count places
 
 -- what a run needs of its stream: the job's object, count and steps, all within their limits, and every scheduled process one of eight
 pub record Runnable (stream : List ℕ) (object : Kind) (count steps : ℕ) : Type 0 where

@@ -11,9 +11,10 @@ ghost use mathlib.Core.Path.{_≡_};
 ghost use Prim.Native.Nat.{_+_, _*_, _<_, _≤_};
 ghost use lib.ListN.{length};
 ghost use Rattle.job.specs.Stream.{operations, «schedule-length»};
+ghost use Rattle.job.specs.Refusals.{«most-processes»};
 ghost use Rattle.job.specs.Job.{«job-of»};
 ghost use Rattle.machine.specs.Run.{ended, before, «operation-after»};
-ghost use Rattle.run.specs.Promise.{Goes, Follows, InPlace, Runnable, Room, AllBlank, Ran};
+ghost use Rattle.run.specs.Promise.{Goes, Follows, InPlace, «all-rest», Runnable, Room, AllBlank, Ran};
 
 // The run state: "The eight places, one a process, go from step to step together".
 pub struct Run {
@@ -89,6 +90,23 @@ fn line_up(stream: &[u8], object: Kind, count: u16) -> Run
         p += 1;
     }
     run
+}
+
+// Has every process come to the end of its operations?
+fn all_rest(run: Run, count: u16) -> bool
+    requires { ⌜ length (run .places) ≡ most-processes ⌝ }
+    ensures { λ r. ⌜ r ≡ all-rest count (run .places) ⌝ }
+{
+    let mut p: usize = 0;
+    while p < 8 {
+        let place = run.places[p];
+        let o = place.operation;
+        if o.0 <= count {
+            return false;
+        }
+        p += 1;
+    }
+    true
 }
 
 // Runs the whole schedule. The lent memory is blank; it is left with the nodes' nexts and marks and with the journal.
