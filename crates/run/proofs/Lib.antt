@@ -3,3 +3,4 @@ pub mod Bounds
 pub mod Places
 pub mod Turned
 pub mod Loop
+pub mod Settled
