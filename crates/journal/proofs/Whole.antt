@@ -113,12 +113,12 @@ module _ (j : Job) where
     pub holds-acts : {ends : Bool} {first last start link taken stands by first′ last′ start′ link′ taken′ stands′ by′ : List ℕ} → is-answer (note j (suc k) .answer) ≡ ends → Holds j k first last start link taken stands by → Stored (note j (suc k) .event) ends o (suc k) first last start link taken stands by first′ last′ start′ link′ taken′ stands′ by′ → Holds j (suc k) first′ last′ start′ link′ taken′ stands′ by′
     holds-acts {ends} {first} {last} {by = by} {by′ = by′} e h s =
         record {
-          first-at = λ q op. ap (λ f. f q) (s .first-stored) ∙ first-more (at first) (h .first-at) q op;
-          last-at = λ q op. ap (λ f. f q) (s .last-stored) ∙ last-more ends e (at last) (h .last-at) q op;
+          first-at = λ q op. ap (λ f. f q) (s .entered .first-stored) ∙ first-more (at first) (h .first-at) q op;
+          last-at = λ q op. ap (λ f. f q) (s .entered .last-stored) ∙ last-more ends e (at last) (h .last-at) q op;
           agrees = subst (Agrees j (suc k)) (sym (s .event-stored)) (acts-keep j k o acts _ (h .agrees));
-          by-at = by-more k by by′ (h .by-at) (s .by-stored ∙ ap (upd (at by) (suc k)) (sym (acts .actor-is)));
+          by-at = by-more k by by′ (h .by-at) (s .entered .by-stored ∙ ap (upd (at by) (suc k)) (sym (acts .actor-is)));
           by-later = λ i later.
-              ap (λ f. f i) (s .by-stored)
+              ap (λ f. f i) (s .entered .by-stored)
               ∙ upd-elim (λ x. x ≡ 0) (at by) (suc k) o i (λ here. absurd (later-not-here i later here)) (λ there. h .by-later i (omega arith));
         }
       where

@@ -7,22 +7,21 @@ use lib.ListN.{length}
 use Rattle.basics.specs.Choice.{pick}
 use Rattle.basics.specs.Maps.{at, upd}
 use Rattle.machine.specs.declared.Event.{Event}
-use Rattle.machine.specs.Journal.{item-of}
 use Rattle.journal.specs.Cells.{cells, noted, earlier}
 
--- the operation's first step if it had none, its last if it ended, its event, and who made the step
-pub record Stored (e : Event) (ends : Bool) (o k : ℕ) (first last start link taken stands by first′ last′ start′ link′ taken′ stands′ by′ : List ℕ) : Type 0 where
+-- the operation's first step if it had none, its last if it ended, and who made the step
+pub record Entered (ends : Bool) (o k : ℕ) (first last by first′ last′ by′ : List ℕ) : Type 0 where
   pub first-stored : at first′ ≡ upd (at first) o (earlier (at first o) k)
   pub last-stored : at last′ ≡ pick ends (upd (at last) o k) (at last)
-  pub event-stored : cells start′ link′ taken′ stands′ ≡ noted e o k (cells start link taken stands)
   pub by-stored : at by′ ≡ upd (at by) k o
 
--- the lists have the cells of the operation, of the event's item and of the step
-pub record Spacious (e : Event) (o k : ℕ) (first last start link taken stands by : List ℕ) : Type 0 where
+-- the lists have the cells of the operation and of the step
+pub record Spacious (o k : ℕ) (first last by : List ℕ) : Type 0 where
   pub in-first : o < length first
   pub in-last : o < length last
-  pub in-start : o < length start
-  pub in-link : o < length link
-  pub in-taken : o < length taken
-  pub in-stands : item-of e < length stands
   pub in-by : k < length by
+
+-- all that one step stores: also its event
+pub record Stored (e : Event) (ends : Bool) (o k : ℕ) (first last start link taken stands by first′ last′ start′ link′ taken′ stands′ by′ : List ℕ) : Type 0 where
+  pub entered : Entered ends o k first last by first′ last′ by′
+  pub event-stored : cells start′ link′ taken′ stands′ ≡ noted e o k (cells start link taken stands)

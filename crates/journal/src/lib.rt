@@ -5,7 +5,7 @@ ghost use lib.ListN.{length};
 ghost use Rattle.basics.specs.Maps.{at, upd};
 ghost use Rattle.basics.specs.Choice.{pick};
 ghost use Rattle.journal.specs.Cells.{cells, noted, earlier, Room};
-ghost use Rattle.journal.specs.Stored.{Stored, Spacious};
+ghost use Rattle.journal.specs.Stored.{Entered, Spacious};
 use machine::Event;
 use machine::Operation;
 use machine::Step;
@@ -93,25 +93,12 @@ fn store_end(last: &mut [u16], ends: bool, o: u16, k: u16)
     }
 }
 
-// Enters step k, made by operation o: its event, and whether the operation ended.
-pub fn enter(
-    event: Event,
-    ends: bool,
-    o: Operation,
-    k: Step,
-    first: &mut [u16],
-    last: &mut [u16],
-    start: &mut [u16],
-    link: &mut [u16],
-    taken: &mut [u16],
-    stands: &mut [u16],
-    by: &mut [u16],
-)
-    requires { ⌜ Spacious event (o .0) (k .0) (now first) (now last) (now start) (now link) (now taken) (now stands) (now by) ⌝ }
-    ensures { λ r. ⌜ Stored event ends (o .0) (k .0) (now (first .entry)) (now (last .entry)) (now (start .entry)) (now (link .entry)) (now (taken .entry)) (now (stands .entry)) (now (by .entry)) (now (first .exit)) (now (last .exit)) (now (start .exit)) (now (link .exit)) (now (taken .exit)) (now (stands .exit)) (now (by .exit)) ⌝ }
+// Enters step k, made by operation o, and whether the operation ended.
+pub fn enter(ends: bool, o: Operation, k: Step, first: &mut [u16], last: &mut [u16], by: &mut [u16])
+    requires { ⌜ Spacious (o .0) (k .0) (now first) (now last) (now by) ⌝ }
+    ensures { λ r. ⌜ Entered ends (o .0) (k .0) (now (first .entry)) (now (last .entry)) (now (by .entry)) (now (first .exit)) (now (last .exit)) (now (by .exit)) ⌝ }
 {
     store_first(first, o.0, k);
     store_end(last, ends, o.0, k.0);
-    note(event, o, k, start, link, taken, stands);
     store(by, k.0, o.0);
 }

@@ -12,6 +12,7 @@ use Rattle.job.specs.Stream.{operations, schedule-length, process, record-at, s
 use Rattle.job.specs.Refusals.{most-operations, most-processes, most-steps}
 use Rattle.job.specs.File.{most-blocks, most-stream}
 use Rattle.job.specs.Job.{Job, job-of}
+use Rattle.machine.specs.Idle.{IdleBehind}
 use Rattle.machine.specs.Run.{state-after}
 use Rattle.machine.specs.Report.{report}
 use Rattle.machine.specs.Explained.{Operation}
@@ -111,6 +112,11 @@ module _ {s : List ℕ} (r : Ready s) where
   pub report-room : (out : List ℕ) → ((i : ℕ) → getD s i 0 < 256) → least-report ≤ length out → length (report (job-of s)) ≤ length out
   unfolding least-report most-operations
   report-room out byte room = omega (arith, report-bounded (job-of s) (fits byte))
+
+  -- the run's steps are those of the job
+  pub idle-to-end : {reach steps : ℕ} → steps ≡ schedule-length s → IdleBehind (job-of s) reach steps → IdleBehind (job-of s) reach (job-of s .steps)
+  unfolding job-of
+  idle-to-end {reach} = subst (IdleBehind (job-of s) reach)
 
   -- what the run leaves, for the steps of the job
   module _ {steps head tail top : ℕ} {next mark first last start link taken stands by : List ℕ} (its-steps : steps ≡ schedule-length s) (room : Room next mark first last start link taken stands by) (ran : Ran (job-of s) steps head tail top next mark first last start link taken stands by) where

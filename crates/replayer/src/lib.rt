@@ -69,6 +69,7 @@ fn replay_in(
         mark,
         end.head,
         end.top,
+        end.reach,
     )
 }
 

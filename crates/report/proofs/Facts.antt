@@ -1,18 +1,19 @@
--- Facts of every run that let a report be written from arrays: answers by link and item, items that are operations, who makes a step, and
--- what an operation without link and item did. Assumes nothing.
+-- Facts of every run that let a report be written from arrays: answers by link and item, items that are operations, who makes a step,
+-- what an operation without link and item did, and that idle steps have no line. Assumes nothing.
 use mathlib.Core.Path.{_≡_, refl, sym, ap, subst, _∙_}
-use mathlib.Core.Logic.{_≢_, _⊎_, inl, inr}
-use Prim.Native.Nat.{ℕ, zero, suc, _≤_}
+use mathlib.Core.Logic.{_≢_, _⊎_, inl, inr, ⊎-elim}
+use Prim.Native.Nat.{ℕ, zero, suc, _≤_, _<_}
 use native.Mathlib.Omega.{arith}
-use mathlib.Core.List.{[]}
-use Rattle.basics.proofs.Choice.{pick-then, pick-else, equal-same, unequal-same}
+use mathlib.Core.List.{List, [], _++_, append-nil}
+use Rattle.basics.proofs.Choice.{pick-then, pick-else, equal-same, unequal-same, compare}
 use Rattle.job.specs.declared.Kind.{Kind}
 use Rattle.job.specs.declared.Kind.the-variants.{Queue, Stack}
 use Rattle.job.specs.Job.{Job}
 use Rattle.machine.specs.Journal.{Answer, note, idle, last, answer, link, taken}
+use Rattle.machine.specs.Idle.{IdleBehind}
 use Rattle.machine.specs.Effects.{effect}
 use Rattle.machine.specs.Effects.Effect.{none}
-use Rattle.machine.specs.Record.{line-at}
+use Rattle.machine.specs.Record.{Recorded, line-at, lines-to}
 use Rattle.machine.specs.Explained.{Operation}
 use Rattle.machine.proofs.Operations.{Idles, Acts, step-made}
 use Rattle.machine.proofs.Operations.Locals.{actor}
@@ -102,3 +103,17 @@ idle-line j k (suc s) low high e = go (step-made j s)
     go : Idles j s ⊎ ((o : ℕ) × Acts j s o) → line-at j k (suc s) ≡ []
     go (inl i) = line-of-none j k (suc s) low high (subst Lineless (sym (i .event)) quiet)
     go (inr a) = absurd (omega (arith, a .1 .from-one, sym (a .1 .actor-is) ∙ e))
+
+-- a run that is idle behind `reach` has all its lines up to there
+pub all-lines-to-reach : (j : Job) {reach k : ℕ} → IdleBehind j reach k → lines-to j k reach ≡ lines-to j k k
+unfolding lines-to
+all-lines-to-reach j {reach} {k} behind = go k (behind .within) (omega arith)
+  where
+    go : (n : ℕ) → reach ≤ n → n ≤ k → lines-to j k reach ≡ lines-to j k n
+    go zero low high = ap (lines-to j k) (let e : reach ≡ 0 = omega arith in e)
+    go (suc n) low high =
+        let no-line : reach ≤ n → line-at j k (suc n) ≡ [] = λ less. idle-line j k (suc n) (omega arith) high (behind .idle-step (suc n) (omega arith) high) in
+        ⊎-elim
+        (λ (less : reach ≤ n). go n less (omega arith) ∙ sym (append-nil _) ∙ ap (λ (l : List Recorded). lines-to j k n ++ l) (sym (no-line less)))
+        (λ (all : n < reach). ap (lines-to j k) (let e : reach ≡ suc n = omega arith in e))
+        (compare reach n)

@@ -1,7 +1,6 @@
 // The report of a finished run, from the arrays that it leaves.
 use job::Kind;
 use job::operations;
-use job::schedule_length;
 use lines::bound_takers;
 use lines::empty_line;
 use lines::left_line;
@@ -21,6 +20,7 @@ ghost use Rattle.job.specs.Job.{job-of};
 ghost use Rattle.lines.specs.Members.{Bounds};
 ghost use Rattle.machine.specs.Run.{state-after};
 ghost use Rattle.machine.specs.Journal.{note};
+ghost use Rattle.machine.specs.Idle.{IdleBehind};
 ghost use Rattle.machine.specs.Record.{line-at, lines-to};
 ghost use Rattle.machine.specs.Left.{left};
 ghost use Rattle.machine.specs.Explained as Explained;
@@ -181,7 +181,7 @@ fn line_at(
     )
 }
 
-// The record, in step order, with bounds on where each item's takers are.
+// The record up to step `reach`, in step order, with bounds on where each item's takers are.
 fn bounded_lines(
     out: &mut [u8],
     at: usize,
@@ -195,16 +195,16 @@ fn bounded_lines(
     stands: &[u16],
     by: &[u16],
     count: u16,
-    steps: u16,
+    reach: u16,
 ) -> usize
-    requires { ⌜ (count ≡ job-of (now stream) .count) × (steps ≡ job-of (now stream) .steps) × Column 1 (job-of (now stream) .steps) (now by) (λ s. note (job-of (now stream)) s .by) × Bounds (Maps.at (now taken)) count (Maps.at (now skip)) (Maps.at (now beyond)) ⌝ }
+    requires { ⌜ (count ≡ job-of (now stream) .count) × (reach ≤ job-of (now stream) .steps) × Column 1 (job-of (now stream) .steps) (now by) (λ s. note (job-of (now stream)) s .by) × Bounds (Maps.at (now taken)) count (Maps.at (now skip)) (Maps.at (now beyond)) ⌝ }
     requires { ⌜ HoldsEffects (job-of (now stream)) (job-of (now stream) .steps) (now last) (now start) (now link) (now taken) (now stands) ⌝ }
-    requires { ⌜ at + length (record-lines (lines-to (job-of (now stream)) (job-of (now stream) .steps) steps)) ≤ length (now out) ⌝ }
-    ensures { λ r. ⌜ Wrote (now (out .entry)) (now (out .exit)) at r (record-lines (lines-to (job-of (now (stream .entry))) (job-of (now (stream .entry)) .steps) steps)) ⌝ }
+    requires { ⌜ at + length (record-lines (lines-to (job-of (now stream)) (job-of (now stream) .steps) reach)) ≤ length (now out) ⌝ }
+    ensures { λ r. ⌜ Wrote (now (out .entry)) (now (out .exit)) at r (record-lines (lines-to (job-of (now (stream .entry))) (job-of (now (stream .entry)) .steps) reach)) ⌝ }
 {
     let mut place = at;
     let mut s: u16 = 0;
-    while s < steps {
+    while s < reach {
         s += 1;
         place = line_at(
             out,
@@ -225,7 +225,7 @@ fn bounded_lines(
     place
 }
 
-// The record, in step order.
+// The record up to step `reach`, in step order.
 fn record_lines(
     out: &mut [u8],
     at: usize,
@@ -237,12 +237,12 @@ fn record_lines(
     stands: &[u16],
     by: &[u16],
     count: u16,
-    steps: u16,
+    reach: u16,
 ) -> usize
-    requires { ⌜ (count ≡ job-of (now stream) .count) × (steps ≡ job-of (now stream) .steps) × Column 1 (job-of (now stream) .steps) (now by) (λ s. note (job-of (now stream)) s .by) ⌝ }
+    requires { ⌜ (count ≡ job-of (now stream) .count) × (reach ≤ job-of (now stream) .steps) × Column 1 (job-of (now stream) .steps) (now by) (λ s. note (job-of (now stream)) s .by) ⌝ }
     requires { ⌜ HoldsEffects (job-of (now stream)) (job-of (now stream) .steps) (now last) (now start) (now link) (now taken) (now stands) ⌝ }
-    requires { ⌜ at + length (record-lines (lines-to (job-of (now stream)) (job-of (now stream) .steps) steps)) ≤ length (now out) ⌝ }
-    ensures { λ r. ⌜ Wrote (now (out .entry)) (now (out .exit)) at r (record-lines (lines-to (job-of (now (stream .entry))) (job-of (now (stream .entry)) .steps) steps)) ⌝ }
+    requires { ⌜ at + length (record-lines (lines-to (job-of (now stream)) (job-of (now stream) .steps) reach)) ≤ length (now out) ⌝ }
+    ensures { λ r. ⌜ Wrote (now (out .entry)) (now (out .exit)) at r (record-lines (lines-to (job-of (now (stream .entry))) (job-of (now (stream .entry)) .steps) reach)) ⌝ }
 {
     let mut skip = [0u16; ITEMS];
     let mut beyond = [0u16; ITEMS];
@@ -260,7 +260,7 @@ fn record_lines(
         stands,
         by,
         count,
-        steps,
+        reach,
     )
 }
 
@@ -296,7 +296,7 @@ fn left_of(
     left_line(out, at, object, next, mark, node, count)
 }
 
-// The report of a finished run, at the front of a memory, and its length.
+// The report of a finished run, at the front of a memory, and its length. Steps behind `reach` are idle and have no line.
 pub fn write_report(
     out: &mut [u8],
     stream: &[u8],
@@ -311,10 +311,11 @@ pub fn write_report(
     mark: &[u16],
     head: u16,
     top: u16,
+    reach: u16,
 ) -> usize
     requires { ⌜ Holds (job-of (now stream)) (job-of (now stream) .steps) (now first) (now last) (now start) (now link) (now taken) (now stands) (now by) ⌝ }
     requires { ⌜ Remembers (job-of (now stream) .count) (state-after (job-of (now stream)) (job-of (now stream) .steps) .memory) (now next) (now mark) head top ⌝ }
-    requires { ⌜ (stream-length (now stream) ≤ length (now stream)) × (length (report (job-of (now stream))) ≤ length (now out)) ⌝ }
+    requires { ⌜ (stream-length (now stream) ≤ length (now stream)) × (length (report (job-of (now stream))) ≤ length (now out)) × IdleBehind (job-of (now stream)) reach (job-of (now stream) .steps) ⌝ }
     ensures { λ r. ⌜ Reported (now (out .entry)) (now (out .exit)) r (report (job-of (now (stream .entry)))) ⌝ }
 {
     let object = object_of(stream);
@@ -332,7 +333,7 @@ pub fn write_report(
         stands,
         by,
         count,
-        schedule_length(stream),
+        reach,
     );
     left_of(out, at, stream, object, next, mark, head, top, count)
 }

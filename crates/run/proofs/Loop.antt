@@ -19,19 +19,19 @@ use Rattle.machine.specs.declared.Event.{Event}
 use Rattle.machine.specs.declared.Place.{Place}
 use Rattle.machine.specs.Memory.{Memory, fresh-memory}
 use Rattle.machine.specs.Run.{ended, resting, registers, state-after, fresh-state, reached}
-use Rattle.machine.specs.Journal.{item-of}
+use Rattle.machine.specs.Journal.{item-of, acted}
 use Rattle.machine.specs.Explained.{Operation}
 use Rattle.machine.proofs.Bounds.{MemoryWithin, PlaceWithin, within, reached-within, item-within}
 use Rattle.machine.proofs.Stamps.{first-zero, last-zero, start-zero, link-zero, join-zero, taken-none}
 use Rattle.machine.proofs.TakesAt.{stands-zero}
 use Rattle.access.specs.View.{memory-of}
 use Rattle.step.specs.declared.Stepped.{Stepped}
-use Rattle.step.specs.Promise.{Inside, IsStep}
+use Rattle.step.specs.Promise.{Inside, IsStep, event-at}
 use Rattle.journal.specs.Cells.{cells}
 use Rattle.journal.specs.Holds.{Agrees, Holds}
-use Rattle.journal.specs.Stored.{Stored, Spacious}
-use Rattle.run.specs.Promise.{Goes, Runnable, Room, AllBlank, Ran, InPlace, nowhere, followed}
-use Rattle.run.proofs.Turned.{made-from, followed-place, ran-rests, ran-acts, places-rest, places-act}
+use Rattle.journal.specs.Stored.{Stored}
+use Rattle.run.specs.Promise.{Goes, Runnable, Room, AllBlank, Ran, InPlace, nowhere, Makes}
+use Rattle.run.proofs.Turned.{made-from, followed, followed-place, ran-rests, ran-acts, places-rest, places-act}
 
 -- a list keeps its length
 pub record SameLengths (next mark first last start link taken stands by next′ mark′ first′ last′ start′ link′ taken′ stands′ by′ : List ℕ) : Type 0 where
@@ -44,6 +44,21 @@ pub record SameLengths (next mark first last start link taken stands by next′ 
   pub of-taken : length taken′ ≡ length taken
   pub of-stands : length stands′ ≡ length stands
   pub of-by : length by′ ≡ length by
+
+-- and keeps it over one more call
+pub later : {next₀ mark₀ first₀ last₀ start₀ link₀ taken₀ stands₀ by₀ next mark first last start link taken stands by next′ mark′ first′ last′ start′ link′ taken′ stands′ by′ : List ℕ} → SameLengths next₀ mark₀ first₀ last₀ start₀ link₀ taken₀ stands₀ by₀ next mark first last start link taken stands by → length next′ ≡ length next → length mark′ ≡ length mark → length first′ ≡ length first → length last′ ≡ length last → length start′ ≡ length start → length link′ ≡ length link → length taken′ ≡ length taken → length stands′ ≡ length stands → length by′ ≡ length by → SameLengths next₀ mark₀ first₀ last₀ start₀ link₀ taken₀ stands₀ by₀ next′ mark′ first′ last′ start′ link′ taken′ stands′ by′
+later s n m f l st li ta sd b =
+    record {
+      of-next = n ∙ s .of-next;
+      of-mark = m ∙ s .of-mark;
+      of-first = f ∙ s .of-first;
+      of-last = l ∙ s .of-last;
+      of-start = st ∙ s .of-start;
+      of-link = li ∙ s .of-link;
+      of-taken = ta ∙ s .of-taken;
+      of-stands = sd ∙ s .of-stands;
+      of-by = b ∙ s .of-by;
+    }
 
 module _ {stream : List ℕ} {object : Kind} {count steps : ℕ} (r : Runnable stream object count steps) where
   -- an operation in hand is one of the stream's
@@ -144,67 +159,69 @@ module _ {stream : List ℕ} {object : Kind} {count steps : ℕ} (r : Runnable s
           lengths = t .lengths;
         })
 
-    pub step-fits : place .operation .0 ≤ count → (ended (place .row) ≡ false) × Inside (place .operation .0) (place .h) (place .t) next mark
+    m : Memory
+    m = memory-of head tail top next mark
+
+    m-within : MemoryWithin (job-of stream .count) m
+    unfolding m
+    m-within = subst (MemoryWithin (job-of stream .count)) (sym (t .ran .memory)) (within (job-of stream) k .memory)
+
+    -- the item of the step's event is a node
+    item-in : place .operation .0 ≤ count → item-of (event-at place head tail top next mark) ≤ count
+    unfolding m event-at acted
+    item-in acts =
+        let j : Job = job-of stream in
+        let small : place .operation .0 ≤ j .count = subst (λ n. place .operation .0 ≤ n) (sym count-is) acts in
+        let w = reached-within j m place small m-within (place-within (t .in-place) p-in-range) in
+        subst (λ n. item-of (acted place (reached m place) .event) ≤ n) count-is
+        (item-within (j .count) (reached m place .registers) (w .own) _ _)
+
+    -- all that the step needs is there
+    pub makes : place .operation .0 ≤ count → Makes place (k + 1) head tail top next mark first last start link taken stands by
     unfolding registers
-    step-fits h =
+    makes h =
         let w : PlaceWithin count place = own-place in
-        let few : count ≤ most-operations = r .few in (
-          w .going,
-          record {
-            own-has-next = omega (arith, room .in-next, t .lengths .of-next);
-            h-has-next = omega (arith, w .own .h, room .in-next, t .lengths .of-next);
-            t-has-next = omega (arith, w .own .t, room .in-next, t .lengths .of-next);
-            t-has-mark = omega (arith, w .own .t, room .in-mark, t .lengths .of-mark);
-          },
-        )
+        let few : count ≤ most-operations = r .few in
+        let short : steps ≤ most-steps = r .short in
+        let item : item-of (event-at place head tail top next mark) ≤ count = item-in h in
+        record {
+          going = w .going;
+          inside =
+              record {
+                own-has-next = omega (arith, room .in-next, t .lengths .of-next);
+                h-has-next = omega (arith, w .own .h, room .in-next, t .lengths .of-next);
+                t-has-next = omega (arith, w .own .t, room .in-next, t .lengths .of-next);
+                t-has-mark = omega (arith, w .own .t, room .in-mark, t .lengths .of-mark);
+              };
+          noting =
+              record {
+                in-start = omega (arith, room .in-start, t .lengths .of-start);
+                in-link = omega (arith, room .in-link, t .lengths .of-link);
+                in-taken = omega (arith, room .in-taken, t .lengths .of-taken);
+                in-stands = omega (arith, room .in-stands, t .lengths .of-stands);
+              };
+          entering =
+              record {
+                in-first = omega (arith, room .in-first, t .lengths .of-first);
+                in-last = omega (arith, room .in-last, t .lengths .of-last);
+                in-by = omega (arith, room .in-by, t .lengths .of-by);
+              };
+        }
 
     module _ {s : Stepped} {next′ mark′ : List ℕ} (acts : place .operation .0 ≤ count) (is : IsStep place head tail top next mark s next′ mark′) where
-      m : Memory
-      m = memory-of head tail top next mark
-
-      m-within : MemoryWithin (job-of stream .count) m
-      unfolding m
-      m-within = subst (MemoryWithin (job-of stream .count)) (sym (t .ran .memory)) (within (job-of stream) k .memory)
-
-      -- the item of the step's event is a node
-      item-in : item-of (s .event) ≤ count
-      unfolding m
-      item-in =
-          let j : Job = job-of stream in
-          let small : place .operation .0 ≤ j .count = subst (λ n. place .operation .0 ≤ n) (sym count-is) acts in
-          let w = reached-within j m place small m-within (place-within (t .in-place) p-in-range) in
-          subst (λ n. item-of (s .event) ≤ n) count-is
-          (subst (λ e. item-of e ≤ j .count) (sym (is .event)) (item-within (j .count) (reached m place .registers) (w .own) _ _))
-
-      pub enter-fits : Spacious (s .event) (place .operation .0) (k + 1) first last start link taken stands by
-      enter-fits =
-          let few : count ≤ most-operations = r .few in
-          let short : steps ≤ most-steps = r .short in
-          let item : item-of (s .event) ≤ count = item-in in
-          record {
-            in-first = omega (arith, room .in-first, t .lengths .of-first);
-            in-last = omega (arith, room .in-last, t .lengths .of-last);
-            in-start = omega (arith, room .in-start, t .lengths .of-start);
-            in-link = omega (arith, room .in-link, t .lengths .of-link);
-            in-taken = omega (arith, room .in-taken, t .lengths .of-taken);
-            in-stands = omega (arith, room .in-stands, t .lengths .of-stands);
-            in-by = omega (arith, room .in-by, t .lengths .of-by);
-          }
-
-      pub turning-acts : {first′ last′ start′ link′ taken′ stands′ by′ : List ℕ} (ends : Bool) (after : Place) → ends ≡ ended (s .row) → Stored (s .event) ends (place .operation .0) (k + 1) first last start link taken stands by first′ last′ start′ link′ taken′ stands′ by′ → after ≡ followed stream p (place .operation) ends s → SameLengths next₀ mark₀ first₀ last₀ start₀ link₀ taken₀ stands₀ by₀ next′ mark′ first′ last′ start′ link′ taken′ stands′ by′ → Turning stream steps (k + 1) (set places p after) (s .head) (s .tail) (s .top) next₀ mark₀ first₀ last₀ start₀ link₀ taken₀ stands₀ by₀ next′ mark′ first′ last′ start′ link′ taken′ stands′ by′
-      unfolding followed
-      turning-acts {first′} {last′} {start′} {link′} {taken′} {stands′} {by′} ends after e stored f lengths =
+      pub turning-acts : {first′ last′ start′ link′ taken′ stands′ by′ : List ℕ} (after : Place) → Stored (event-at place head tail top next mark) (ended (s .row)) (place .operation .0) (k + 1) first last start link taken stands by first′ last′ start′ link′ taken′ stands′ by′ → after ≡ followed (job-of stream) p (place .operation) s → SameLengths next₀ mark₀ first₀ last₀ start₀ link₀ taken₀ stands₀ by₀ next′ mark′ first′ last′ start′ link′ taken′ stands′ by′ → Turning stream steps (k + 1) (set places p after) (s .head) (s .tail) (s .top) next₀ mark₀ first₀ last₀ start₀ link₀ taken₀ stands₀ by₀ next′ mark′ first′ last′ start′ link′ taken′ stands′ by′
+      turning-acts {first′} {last′} {start′} {link′} {taken′} {stands′} {by′} after stored f lengths =
           subst (λ x. Turning stream steps x (set places p after) (s .head) (s .tail) (s .top) next₀ mark₀ first₀ last₀ start₀ link₀ taken₀ stands₀ by₀ next′ mark′ first′ last′ start′ link′ taken′ stands′ by′) (sym (add-one k))
           (record {
             small = more;
             in-place =
                 subst (λ x. InPlace j (suc k) (set places x after)) (sym scheduled-is)
                 (places-act j k places after (awake acts) (entry-in-range r k more) (t .in-place)
-                (followed-place j k ends after (made-from (t .ran .memory) real) e
-                (subst (λ (x : ℕ × Place). after ≡ followed stream (x .0) (x .1 .operation) ends s) (λ i. (scheduled-is i, its-place i)) f)));
+                (followed-place j k after (made-from (t .ran .memory) real)
+                (subst (λ (x : ℕ × Place). after ≡ followed j (x .0) (x .1 .operation) s) (λ i. (scheduled-is i, its-place i)) f)));
             ran =
-                ran-acts j k ends (awake acts) (t .ran) real e
-                (subst (λ (x : ℕ × Place). Stored (s .event) ends (x .1 .operation .0) (x .0) first last start link taken stands by first′ last′ start′ link′ taken′ stands′ by′) (λ i. (add-one k i, its-place i)) stored);
+                ran-acts j k (awake acts) (t .ran) real
+                (subst (λ (x : ℕ × Place). Stored (event-at (x .1) head tail top next mark) (ended (s .row)) (x .1 .operation .0) (x .0) first last start link taken stands by first′ last′ start′ link′ taken′ stands′ by′) (λ i. (add-one k i, its-place i)) stored);
             lengths = lengths;
           })
         where

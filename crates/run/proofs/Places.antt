@@ -17,6 +17,10 @@ use Rattle.machine.specs.declared.Place.{Place}
 use Rattle.machine.specs.Run.{before, operation-after, fresh-state, state-after}
 use Rattle.run.specs.Promise.{nowhere, InPlace, all-rest}
 
+-- places stay eight where one is stored
+pub eight-kept : (places : List Place) (p : ℕ) (r : Place) → length places ≡ most-processes → length (set places p r) ≡ most-processes
+eight-kept places p r eight = length-set places p r ∙ eight
+
 -- the first n places are before their processes' first operations
 pub record LinedUp (j : Job) (n : ℕ) (places : List Place) : Type 0 where
   pub eight : length places ≡ most-processes
@@ -36,7 +40,7 @@ module _ (j : Job) where
   pub lined-next : (places : List Place) (p : ℕ) (r : Place) → p < most-processes → LinedUp j p places → r ≡ before j (operation-after j p 0) → LinedUp j (p + 1) (set places p r)
   lined-next places p r in-range l e =
       record {
-        eight = length-set places p r ∙ l .eight;
+        eight = eight-kept places p r (l .eight);
         each = λ q h. go q h (split q p);
       }
     where

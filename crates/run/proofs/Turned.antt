@@ -17,32 +17,44 @@ use Rattle.machine.specs.declared.Operation as Machine
 use Rattle.machine.specs.declared.Event.{Event}
 use Rattle.machine.specs.declared.Place.{Place}
 use Rattle.machine.specs.Memory.{Memory}
-use Rattle.machine.specs.Table.{row-of}
 use Rattle.machine.specs.Access.{Registers, Reached}
 use Rattle.machine.specs.Run.{State, before, operation-after, ended, reached, row-after, place-after, resting, step, state-after}
-use Rattle.machine.specs.Journal.{Note, idle, acted, note, is-answer, answer-of, event-of}
+use Rattle.machine.specs.Journal.{Note, idle, acted, note, is-answer, answer-of}
 use Rattle.machine.proofs.Operations.{Idles, Acts, step-made}
 use Rattle.machine.proofs.Operations.Locals.{actor}
 use Rattle.machine.proofs.Bounds.{within}
 use Rattle.access.specs.View.{memory-of}
 use Rattle.step.specs.declared.Stepped.{Stepped}
-use Rattle.step.specs.Promise.{IsStep}
+use Rattle.step.specs.Promise.{IsStep, event-at}
 use Rattle.journal.specs.Holds.{Holds}
 use Rattle.journal.specs.Stored.{Stored}
 use Rattle.journal.proofs.Whole.{answers-at-end, holds-idle, holds-acts}
-use Rattle.run.specs.Promise.{nowhere, InPlace, Ran, followed}
+use Rattle.run.specs.Promise.{nowhere, InPlace, Ran}
 
 -- the step of a place, from memory and with the answer of the code, as the definition has it
 pub record Made (place : Place) (m m′ : Memory) (s : Stepped) : Type 0 where
   pub memory : m′ ≡ reached m place .memory
   pub registers : record { h = s .h; t = s .t; n = s .n } ≡ reached m place .registers
   pub row : s .row ≡ row-after place (reached m place)
-  pub event : s .event ≡ event-of (row-of (place .row) .access) (reached m place .outcome) (reached m place .registers)
 
 pub made-from : {place : Place} {head tail top : ℕ} {next mark next′ mark′ : List ℕ} {s : Stepped} {m : Memory} → memory-of head tail top next mark ≡ m → IsStep place head tail top next mark s next′ mark′ → Made place m (memory-of (s .head) (s .tail) (s .top) next′ mark′) s
 made-from {place} {next′ = next′} {mark′ = mark′} {s = s} e is =
     subst (λ x. Made place x (memory-of (s .head) (s .tail) (s .top) next′ mark′) s) e
-    (record { memory = is .memory; registers = is .registers; row = is .row; event = is .event })
+    (record { memory = is .memory; registers = is .registers; row = is .row })
+
+-- the place after the step of an operation: before the process's next one if it ended, and else further on
+unfoldable pub followed : Job → ℕ → Machine.Operation → Stepped → Place
+followed j p o s =
+    pick (ended (s .row)) (before j (operation-after j p (o .0))) (record { operation = o; row = s .row; h = s .h; t = s .t; n = s .n })
+
+module _ (j : Job) (p : ℕ) (o : Machine.Operation) (s : Stepped) {after : Place} where
+  pub followed-ended : ended (s .row) ≡ true → after ≡ before j (operation-after j p (o .0)) → after ≡ followed j p o s
+  unfolding followed
+  followed-ended e f = f ∙ sym (pick-then _ _ e)
+
+  pub followed-going : ended (s .row) ≡ false → after ≡ record { operation = o; row = s .row; h = s .h; t = s .t; n = s .n } → after ≡ followed j p o s
+  unfolding followed
+  followed-going e f = f ∙ sym (pick-else _ _ e)
 
 module _ (j : Job) (k : ℕ) where
   -- the process that is scheduled, its place, and what its step reaches
@@ -110,12 +122,12 @@ module _ (j : Job) (k : ℕ) where
   places-rest {places} e l = record { eight = l .eight; each = λ p h. l .each p h ∙ ap (λ (s : State). s .places p) (sym (state-rests e)) }
 
   -- the place that follows is the definition's
-  pub followed-place : {m′ : Memory} {s : Stepped} (ends : Bool) (q : Place) → Made place (state-after j k .memory) m′ s → ends ≡ ended (s .row) → q ≡ pick ends (before j (operation-after j process (place .operation .0))) (record { operation = place .operation; row = s .row; h = s .h; t = s .t; n = s .n }) → q ≡ place-after j process place a
-  unfolding place-after
-  followed-place ends q made e f =
+  pub followed-place : {m′ : Memory} {s : Stepped} (q : Place) → Made place (state-after j k .memory) m′ s → q ≡ followed j process (place .operation) s → q ≡ place-after j process place a
+  unfolding place-after followed
+  followed-place q made f =
       f
       ∙ (λ i.
-      pick ((e ∙ ap ended (made .row)) i) (before j (operation-after j process (place .operation .0)))
+      pick (ended (made .row i)) (before j (operation-after j process (place .operation .0)))
       (record {
         operation = place .operation;
         row = made .row i;
@@ -141,20 +153,21 @@ module _ (j : Job) (k : ℕ) where
           getD-set-other places process p q nowhere there ∙ l .each p h ∙ sym (now p ∙ upd-there _ process _ there)
 
   -- an acting process: memory and journal of one more step
-  pub ran-acts : {head tail top : ℕ} {next mark first last start link taken stands by next′ mark′ first′ last′ start′ link′ taken′ stands′ by′ : List ℕ} {s : Stepped} (ends : Bool) → resting j place ≡ false → Ran j k head tail top next mark first last start link taken stands by → IsStep place head tail top next mark s next′ mark′ → ends ≡ ended (s .row) → Stored (s .event) ends (place .operation .0) (suc k) first last start link taken stands by first′ last′ start′ link′ taken′ stands′ by′ → Ran j (suc k) (s .head) (s .tail) (s .top) next′ mark′ first′ last′ start′ link′ taken′ stands′ by′
-  unfolding acted
-  ran-acts {first = first} {last = last} {start = start} {link = link} {taken = taken} {stands = stands} {by = by} {first′ = first′} {last′ = last′} {start′ = start′} {link′ = link′} {taken′ = taken′} {stands′ = stands′} {by′ = by′} {s = s} ends e r is ending stored =
+  pub ran-acts : {head tail top : ℕ} {next mark first last start link taken stands by next′ mark′ first′ last′ start′ link′ taken′ stands′ by′ : List ℕ} {s : Stepped} → resting j place ≡ false → Ran j k head tail top next mark first last start link taken stands by → IsStep place head tail top next mark s next′ mark′ → Stored (event-at place head tail top next mark) (ended (s .row)) (place .operation .0) (suc k) first last start link taken stands by first′ last′ start′ link′ taken′ stands′ by′ → Ran j (suc k) (s .head) (s .tail) (s .top) next′ mark′ first′ last′ start′ link′ taken′ stands′ by′
+  unfolding acted event-at
+  ran-acts {head} {tail} {top} {next} {mark} {first} {last} {start} {link} {taken} {stands} {by} {first′ = first′} {last′ = last′} {start′ = start′} {link′ = link′} {taken′ = taken′} {stands′ = stands′} {by′ = by′} {s = s} e r is stored =
       let made = made-from (r .memory) is in
-      let event : s .event ≡ note j (suc k) .event = made .event ∙ ap (λ (n : Note). n .event) (sym (note-acts e)) in
-      let answered : is-answer (note j (suc k) .answer) ≡ ends =
+      let event : event-at place head tail top next mark ≡ note j (suc k) .event =
+      ap (λ (m : Memory). acted place (reached m place) .event) (r .memory) ∙ ap (λ (n : Note). n .event) (sym (note-acts e))
+      in
+      let answered : is-answer (note j (suc k) .answer) ≡ ended (s .row) =
       ap (λ (n : Note). is-answer (n .answer)) (note-acts e)
       ∙ answers-at-end (row-after place a) (a .registers)
       ∙ ap ended (sym (made .row))
-      ∙ sym ending
       in
       record {
         memory = made .memory ∙ ap (λ (x : State). x .memory) (sym (state-acts e));
         journal =
             holds-acts j k (place .operation .0) (acts-of e) answered (r .journal)
-            (subst (λ v. Stored v ends (place .operation .0) (suc k) first last start link taken stands by first′ last′ start′ link′ taken′ stands′ by′) event stored);
+            (subst (λ v. Stored v (ended (s .row)) (place .operation .0) (suc k) first last start link taken stands by first′ last′ start′ link′ taken′ stands′ by′) event stored);
       }

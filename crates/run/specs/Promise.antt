@@ -1,21 +1,22 @@
 -- What the run of a job needs of its stream and its lent memory, and what it leaves there: the definition's state and journal.
 use mathlib.Core.Path.{_≡_}
 use Prim.Native.Nat.{ℕ, _+_, _*_, _≤_, _<_}
-use mathlib.Core.Bool.{Bool, true, _&&_}
+use mathlib.Core.Bool.{Bool, true, false, _&&_}
 use mathlib.Core.List.{List, [], _∷_}
 use lib.ListN.{length, getD}
-use Rattle.basics.specs.Choice.{pick, less}
+use Rattle.basics.specs.Choice.{less}
 use Rattle.basics.specs.Maps.{at}
 use Rattle.job.specs.declared.Kind.{Kind}
 use Rattle.job.specs.Stream.{operations, schedule-length, scheduled}
 use Rattle.job.specs.Refusals.{most-operations, most-processes, most-steps}
 use Rattle.job.specs.Job.{Job, job-of}
-use Rattle.machine.specs.declared.Operation as Machine
 use Rattle.machine.specs.declared.Place.{Place}
 use Rattle.machine.specs.declared.Row.the-variants.{Q1}
-use Rattle.machine.specs.Run.{before, operation-after, state-after}
+use Rattle.machine.specs.Run.{ended, state-after}
 use Rattle.access.specs.View.{memory-of}
-use Rattle.step.specs.declared.Stepped.{Stepped}
+use Rattle.step.specs.Promise.{Inside, event-at}
+use Rattle.journal.specs.Cells as Cells
+use Rattle.journal.specs.Stored.{Spacious}
 use Rattle.journal.specs.Holds.{Holds}
 
 -- the stream has the records of its operations, and an operation in hand is one of them
@@ -25,15 +26,6 @@ pub record Goes (stream : List ℕ) (object : Kind) (count o : ℕ) : Type 0 whe
   pub few : count ≤ 256
   pub long : 4 * count + 8 ≤ length stream
   pub in-hand : o ≤ count
-
--- the place after a step that ended the operation or went on
-unfoldable pub followed : List ℕ → ℕ → Machine.Operation → Bool → Stepped → Place
-followed stream p o ends s =
-    pick ends (before (job-of stream) (operation-after (job-of stream) p (o .0)))
-    (record { operation = o; row = s .row; h = s .h; t = s .t; n = s .n })
-
-abbrev pub Follows : List ℕ → ℕ → Machine.Operation → Bool → Stepped → Place → Type 0
-Follows stream p o ends s r = r ≡ followed stream p o ends s
 
 -- a place that stands for none: an array has it past its end
 abbrev pub nowhere : Place
@@ -91,3 +83,10 @@ pub record AllBlank (next mark first last start link taken stands by : List ℕ)
   pub no-taken : Blank taken
   pub no-stands : Blank stands
   pub no-by : Blank by
+
+-- what step k of a place needs: its operation has not ended, and every list has the cells that the step reads or stores
+pub record Makes (place : Place) (k head tail top : ℕ) (next mark first last start link taken stands by : List ℕ) : Type 0 where
+  pub going : ended (place .row) ≡ false
+  pub inside : Inside (place .operation .0) (place .h) (place .t) next mark
+  pub noting : Cells.Room (event-at place head tail top next mark) (place .operation .0) (length start) (length link) (length taken) (length stands)
+  pub entering : Spacious (place .operation .0) k first last by

@@ -2,11 +2,14 @@
 use hands::begin;
 use hands::next_operation;
 use job::Kind;
+use journal::enter;
 use machine::Place;
 use machine::Process;
 use machine::Step;
 use place::advanced;
 use step::Stepped;
+use step::step;
+use table::has_ended;
 ghost use mathlib.Core.Path.{_≡_};
 ghost use Prim.Native.Nat.{_+_, _*_, _<_, _≤_};
 ghost use lib.ListN.{length};
@@ -14,7 +17,10 @@ ghost use Rattle.job.specs.Stream.{operations, «schedule-length»};
 ghost use Rattle.job.specs.Refusals.{«most-processes»};
 ghost use Rattle.job.specs.Job.{«job-of»};
 ghost use Rattle.machine.specs.Run.{ended, before, «operation-after»};
-ghost use Rattle.run.specs.Promise.{Goes, Follows, InPlace, «all-rest», Runnable, Room, AllBlank, Ran};
+ghost use Rattle.machine.specs.Idle.{IdleBehind};
+ghost use Rattle.step.specs.Promise.{IsStep, «event-at»};
+ghost use Rattle.journal.specs.Stored.{Stored};
+ghost use Rattle.run.specs.Promise.{Goes, InPlace, «all-rest», Makes, Runnable, Room, AllBlank, Ran};
 
 // The run state: "The eight places, one a process, go from step to step together".
 pub struct Run {
@@ -47,6 +53,14 @@ impl Object {
     }
 }
 
+// What a run leaves beside the lent memory: the object's cells, and a step behind which every step of the schedule is idle.
+pub struct Finish {
+    pub head: u16,
+    pub tail: u16,
+    pub top: u16,
+    pub reach: u16,
+}
+
 // The place of process p before the operation that comes after operation o.
 fn place_after(stream: &[u8], object: Kind, count: u16, p: Process, o: u16) -> Place
     requires { ⌜ Goes (now stream) object count o ⌝ }
@@ -54,26 +68,6 @@ fn place_after(stream: &[u8], object: Kind, count: u16, p: Process, o: u16) -> P
 {
     let q = next_operation(stream, count, p, o);
     begin(stream, object, q)
-}
-
-// The place of process p after its step: further on in its operation, or before its next one.
-fn follow(
-    stream: &[u8],
-    object: Kind,
-    count: u16,
-    p: Process,
-    place: Place,
-    ends: bool,
-    s: Stepped,
-) -> Place
-    requires { ⌜ Goes (now stream) object count (place .operation .0) ⌝ }
-    ensures { λ r. ⌜ Follows (now (stream .entry)) (p .0) (place .operation) ends s r ⌝ }
-{
-    if ends {
-        return place_after(stream, object, count, p, place.operation.0);
-    }
-    let row = s.row;
-    advanced(place, row, s.h, s.t, s.n)
 }
 
 // Every process before its first operation.
@@ -109,7 +103,48 @@ fn all_rest(run: Run, count: u16) -> bool
     true
 }
 
-// Runs the whole schedule. The lent memory is blank; it is left with the nodes' nexts and marks and with the journal.
+// Makes step k, that of a place, and enters it in the journal.
+fn make(
+    place: Place,
+    k: Step,
+    head: u16,
+    tail: u16,
+    top: u16,
+    next: &mut [u16],
+    mark: &mut [u16],
+    first: &mut [u16],
+    last: &mut [u16],
+    start: &mut [u16],
+    link: &mut [u16],
+    taken: &mut [u16],
+    stands: &mut [u16],
+    by: &mut [u16],
+) -> Stepped
+    requires { ⌜ Makes place (k .0) head tail top (now next) (now mark) (now first) (now last) (now start) (now link) (now taken) (now stands) (now by) ⌝ }
+    ensures { λ s. ⌜ IsStep place head tail top (now (next .entry)) (now (mark .entry)) s (now (next .exit)) (now (mark .exit)) ⌝ }
+    ensures { λ s. ⌜ Stored (event-at place head tail top (now (next .entry)) (now (mark .entry))) (ended (s .row)) (place .operation .0) (k .0) (now (first .entry)) (now (last .entry)) (now (start .entry)) (now (link .entry)) (now (taken .entry)) (now (stands .entry)) (now (by .entry)) (now (first .exit)) (now (last .exit)) (now (start .exit)) (now (link .exit)) (now (taken .exit)) (now (stands .exit)) (now (by .exit)) ⌝ }
+{
+    let o = place.operation;
+    let s = step(
+        place,
+        k,
+        head,
+        tail,
+        top,
+        next,
+        mark,
+        start,
+        link,
+        taken,
+        stands,
+    );
+    let row = s.row;
+    enter(has_ended(row), o, k, first, last, by);
+    s
+}
+
+// Runs the whole schedule. The lent memory is blank; it is left with the nodes' nexts and marks and with the journal. The run is over
+// when every process rests, since no step behind that changes anything.
 pub fn run_all(
     stream: &[u8],
     object: Kind,
@@ -124,11 +159,12 @@ pub fn run_all(
     taken: &mut [u16],
     stands: &mut [u16],
     by: &mut [u16],
-) -> Object
+) -> Finish
     requires { ⌜ Runnable (now stream) object count steps ⌝ }
     requires { ⌜ Room (now next) (now mark) (now first) (now last) (now start) (now link) (now taken) (now stands) (now by) ⌝ }
     requires { ⌜ AllBlank (now next) (now mark) (now first) (now last) (now start) (now link) (now taken) (now stands) (now by) ⌝ }
     ensures { λ r. ⌜ Ran (job-of (now (stream .entry))) steps (r .head) (r .tail) (r .top) (now (next .exit)) (now (mark .exit)) (now (first .exit)) (now (last .exit)) (now (start .exit)) (now (link .exit)) (now (taken .exit)) (now (stands .exit)) (now (by .exit)) ⌝ }
+    ensures { λ r. ⌜ IdleBehind (job-of (now (stream .entry))) (r .reach) steps ⌝ }
 {
     let mut run = line_up(stream, object, count);
     let fresh = Object::fresh();
@@ -142,19 +178,18 @@ pub fn run_all(
         let i = p as usize;
         let place = run.places[i];
         let o = place.operation;
+        k += 1;
         if count < o.0 {
-            k += 1;
             continue;
         }
-        let s = step::step(place, head, tail, top, next, mark);
-        let row = s.row;
-        let event = s.event;
-        let ends = table::has_ended(row);
-        journal::enter(
-            event,
-            ends,
-            o,
-            Step(k + 1),
+        let s = make(
+            place,
+            Step(k),
+            head,
+            tail,
+            top,
+            next,
+            mark,
             first,
             last,
             start,
@@ -163,12 +198,30 @@ pub fn run_all(
             stands,
             by,
         );
-        let after = follow(stream, object, count, Process(p), place, ends, s);
-        run.places[i] = after;
         head = s.head;
         tail = s.tail;
         top = s.top;
-        k += 1;
+        let row = s.row;
+        if has_ended(row) {
+            let after = place_after(stream, object, count, Process(p), o.0);
+            run.places[i] = after;
+            if all_rest(run, count) {
+                return Finish {
+                    head,
+                    tail,
+                    top,
+                    reach: k,
+                };
+            }
+            continue;
+        }
+        let after = advanced(place, row, s.h, s.t, s.n);
+        run.places[i] = after;
     }
-    Object { head, tail, top }
+    Finish {
+        head,
+        tail,
+        top,
+        reach: k,
+    }
 }

@@ -2,20 +2,25 @@
 // shared memory, with the private work after it."
 use access::Accessed;
 use access::Cells;
+use journal::note;
 use machine::Access;
 use machine::Entry;
-use machine::Event;
+use machine::Operation;
 use machine::Outcome;
 use machine::Place;
 use machine::Row;
+use machine::Step;
 ghost use mathlib.Core.Path.{_≡_};
 ghost use mathlib.Core.Bool.{false};
+ghost use lib.ListN.{length};
 ghost use Rattle.machine.specs.Table.{successor};
 ghost use Rattle.machine.specs.Run.{ended};
 ghost use Rattle.access.specs.View.{Does};
-ghost use Rattle.step.specs.Promise.{Inside, IsStep};
+ghost use Rattle.journal.specs.Cells as Journal;
+ghost use Rattle.journal.specs.Cells.{cells, Room};
+ghost use Rattle.step.specs.Promise.{Inside, heard, IsStep, event-at};
 
-// What a step left: the place's row and registers, the three cells of shared memory, and what the step was for the record.
+// What a step left: the place's row and registers, and the three cells of shared memory.
 pub struct Stepped {
     pub row: Row,
     pub h: u16,
@@ -24,29 +29,138 @@ pub struct Stepped {
     pub head: u16,
     pub tail: u16,
     pub top: u16,
-    pub event: Event,
 }
 
-// The access `a` of operation `own`.
-fn perform(a: Access, own: u16, c: Cells, next: &mut [u16], mark: &mut [u16]) -> Accessed
-    requires { ⌜ Inside own (c .h) (c .t) (now next) (now mark) ⌝ }
+// The same access, noted: what it was for the record, at step k of operation `own`.
+fn noted(
+    d: Accessed,
+    own: u16,
+    k: Step,
+    start: &mut [u16],
+    link: &mut [u16],
+    taken: &mut [u16],
+    stands: &mut [u16],
+) -> Accessed
+    requires { ⌜ Room (d .event) own (length (now start)) (length (now link)) (length (now taken)) (length (now stands)) ⌝ }
+    ensures { λ r. ⌜ (r ≡ d) × (cells (now (start .exit)) (now (link .exit)) (now (taken .exit)) (now (stands .exit)) ≡ Journal.noted (d .event) own (k .0) (cells (now (start .entry)) (now (link .entry)) (now (taken .entry)) (now (stands .entry)))) ⌝ }
+{
+    let event = d.event;
+    note(event, Operation(own), k, start, link, taken, stands);
+    d
+}
+
+// The access `a` of operation `own`, at step k. It is noted in the arm that makes it, where the compiled code knows what it was.
+fn perform(
+    a: Access,
+    own: u16,
+    k: Step,
+    c: Cells,
+    next: &mut [u16],
+    mark: &mut [u16],
+    start: &mut [u16],
+    link: &mut [u16],
+    taken: &mut [u16],
+    stands: &mut [u16],
+) -> Accessed
+    requires { ⌜ Inside own (c .h) (c .t) (now next) (now mark) × Room (heard a own c (now next) (now mark)) own (length (now start)) (length (now link)) (length (now taken)) (length (now stands)) ⌝ }
     ensures { λ d. ⌜ Does a own c (now (next .entry)) (now (mark .entry)) d (now (next .exit)) (now (mark .exit)) ⌝ }
+    ensures { λ d. ⌜ cells (now (start .exit)) (now (link .exit)) (now (taken .exit)) (now (stands .exit)) ≡ Journal.noted (heard a own c (now (next .entry)) (now (mark .entry))) own (k .0) (cells (now (start .entry)) (now (link .entry)) (now (taken .entry)) (now (stands .entry))) ⌝ }
 {
     match a {
-        Access::ReadHead => access::read_head(c),
-        Access::ReadTail => access::read_tail(c),
-        Access::ReadNextOfH => access::read_next_of_h(c, next),
-        Access::ReadNextOfT => access::read_next_of_t(c, next),
-        Access::Link => access::link(own, c, next),
-        Access::TailToOwn => access::tail_to_own(own, c),
-        Access::TailToN => access::tail_to_n(c),
-        Access::HeadToN => access::head_to_n(c),
-        Access::ReadTopToPut => access::read_top_to_put(c),
-        Access::ReadTopToTake => access::read_top_to_take(c),
-        Access::ReadMark => access::read_mark(c, mark),
-        Access::Push => access::push(own, c, next),
-        Access::RaiseMark => access::raise_mark(c, mark),
-        Access::TopToNext => access::top_to_next(c, next),
+        Access::ReadHead => noted(access::read_head(c), own, k, start, link, taken, stands),
+        Access::ReadTail => noted(access::read_tail(c), own, k, start, link, taken, stands),
+        Access::ReadNextOfH => noted(
+            access::read_next_of_h(c, next),
+            own,
+            k,
+            start,
+            link,
+            taken,
+            stands,
+        ),
+        Access::ReadNextOfT => noted(
+            access::read_next_of_t(c, next),
+            own,
+            k,
+            start,
+            link,
+            taken,
+            stands,
+        ),
+        Access::Link => noted(
+            access::link(own, c, next),
+            own,
+            k,
+            start,
+            link,
+            taken,
+            stands,
+        ),
+        Access::TailToOwn => noted(
+            access::tail_to_own(own, c),
+            own,
+            k,
+            start,
+            link,
+            taken,
+            stands,
+        ),
+        Access::TailToN => noted(access::tail_to_n(c), own, k, start, link, taken, stands),
+        Access::HeadToN => noted(access::head_to_n(c), own, k, start, link, taken, stands),
+        Access::ReadTopToPut => noted(
+            access::read_top_to_put(c),
+            own,
+            k,
+            start,
+            link,
+            taken,
+            stands,
+        ),
+        Access::ReadTopToTake => noted(
+            access::read_top_to_take(c),
+            own,
+            k,
+            start,
+            link,
+            taken,
+            stands,
+        ),
+        Access::ReadMark => noted(
+            access::read_mark(c, mark),
+            own,
+            k,
+            start,
+            link,
+            taken,
+            stands,
+        ),
+        Access::Push => noted(
+            access::push(own, c, next),
+            own,
+            k,
+            start,
+            link,
+            taken,
+            stands,
+        ),
+        Access::RaiseMark => noted(
+            access::raise_mark(c, mark),
+            own,
+            k,
+            start,
+            link,
+            taken,
+            stands,
+        ),
+        Access::TopToNext => noted(
+            access::top_to_next(c, next),
+            own,
+            k,
+            start,
+            link,
+            taken,
+            stands,
+        ),
     }
 }
 
@@ -63,10 +177,25 @@ fn successor(e: Entry, outcome: Outcome) -> Row
     }
 }
 
-// The step of place `p`, whose operation has not ended. `next` and `mark` are the nodes' nexts and marks.
-pub fn step(p: Place, head: u16, tail: u16, top: u16, next: &mut [u16], mark: &mut [u16]) -> Stepped
+// Step k: that of place `p`, whose operation has not ended. `next` and `mark` are the nodes' nexts and marks; the other lists are the
+// part of the journal where the step's event is noted.
+pub fn step(
+    p: Place,
+    k: Step,
+    head: u16,
+    tail: u16,
+    top: u16,
+    next: &mut [u16],
+    mark: &mut [u16],
+    start: &mut [u16],
+    link: &mut [u16],
+    taken: &mut [u16],
+    stands: &mut [u16],
+) -> Stepped
     requires { ⌜ (ended (p .row) ≡ false) × Inside (p .operation .0) (p .h) (p .t) (now next) (now mark) ⌝ }
+    requires { ⌜ Room (event-at p head tail top (now next) (now mark)) (p .operation .0) (length (now start)) (length (now link)) (length (now taken)) (length (now stands)) ⌝ }
     ensures { λ r. ⌜ IsStep p head tail top (now (next .entry)) (now (mark .entry)) r (now (next .exit)) (now (mark .exit)) ⌝ }
+    ensures { λ r. ⌜ cells (now (start .exit)) (now (link .exit)) (now (taken .exit)) (now (stands .exit)) ≡ Journal.noted (event-at p head tail top (now (next .entry)) (now (mark .entry))) (p .operation .0) (k .0) (cells (now (start .entry)) (now (link .entry)) (now (taken .entry)) (now (stands .entry))) ⌝ }
 {
     let o = p.operation;
     let own = o.0;
@@ -81,10 +210,9 @@ pub fn step(p: Place, head: u16, tail: u16, top: u16, next: &mut [u16], mark: &m
         tail,
         top,
     };
-    let d = perform(a, own, c, next, mark);
+    let d = perform(a, own, k, c, next, mark, start, link, taken, stands);
     let outcome = d.outcome;
     let row = successor(e, outcome);
-    let event = d.event;
     Stepped {
         row,
         h: d.h,
@@ -93,6 +221,5 @@ pub fn step(p: Place, head: u16, tail: u16, top: u16, next: &mut [u16], mark: &m
         head: d.head,
         tail: d.tail,
         top: d.top,
-        event,
     }
 }

@@ -12,17 +12,17 @@ use Rattle.report.proofs.bounded_lines.Statement.{statement}
 use Rattle.report.proofs.bounded_lines.Tie as tie
 
 abbrev Inv-loop : tie.InvT-loop
-Inv-loop out₀ at stream last start link taken skip beyond stands by count steps place₀ s₀ out place s =
-    Written (step-text (job-of stream) (job-of stream .steps)) steps s out₀ out at place
+Inv-loop out₀ at stream last start link taken skip beyond stands by count reach place₀ s₀ out place s =
+    Written (step-text (job-of stream) (job-of stream .steps)) reach s out₀ out at place
 
 abbrev μ-loop : tie.MeasureT-loop
-μ-loop out₀ at stream last start link taken skip beyond stands by count steps place₀ s₀ out place s = steps - s
+μ-loop out₀ at stream last start link taken skip beyond stands by count reach place₀ s₀ out place s = reach - s
 
 loop-holds : tie.Need-loop-holds Inv-loop μ-loop
 loop-holds c =
     let start = c .before .before .before .before .before .before .before .before .before .before in
     let job = job-of (start .args .stream .now) in
-    written-none _ _ _ _ (omega (arith, ap length (record-is-each job (job .steps) (start .args .steps))))
+    written-none _ _ _ _ (omega (arith, ap length (record-is-each job (job .steps) (start .args .reach))))
 
 add-s : tie.Need-add-s Inv-loop μ-loop
 add-s c = omega arith
@@ -47,7 +47,7 @@ returns : tie.Need-returns Inv-loop μ-loop
 returns c =
     let start = c .before .before .before .before .before .before .before .before .before .before .before .before in
     let job = job-of (start .args .stream .now) in
-    wrote-as (record-is-each job (job .steps) (start .args .steps)) (written-all (c .before .loop .inv) (c .loop-test .left))
+    wrote-as (record-is-each job (job .steps) (start .args .reach)) (written-all (c .before .loop .inv) (c .loop-test .left))
 
 pub bounded-lines-spec : {M : Type 1} → statement M
 bounded-lines-spec =

@@ -1,5 +1,5 @@
--- `step::step` meets its contract: the access of the row's entry was done, so what it reached is what the definition's step reaches,
--- and the successor and the event follow from that. Assumes nothing.
+-- `step::step` meets its contract: the access of the row's entry was done and noted, so what it reached is what the definition's step
+-- reaches, and the successor and the event follow from that. Assumes nothing.
 use mathlib.Core.Path.{_≡_, ap, _∙_}
 use Prim.Native.Nat.{ℕ}
 use mathlib.Core.List.{List}
@@ -9,12 +9,13 @@ use Rattle.machine.specs.declared.Entry.{Entry}
 use Rattle.machine.specs.Access.{Registers, Reached}
 use Rattle.machine.specs.Table.{row-of, successor}
 use Rattle.machine.specs.Run.{reach, registers, reached, row-after}
-use Rattle.machine.specs.Journal.{event-of}
+use Rattle.machine.specs.Journal.{acted}
 use Rattle.access.specs.declared.Cells.{Cells}
 use Rattle.access.specs.declared.Accessed.{Accessed}
 use Rattle.access.specs.View.{memory-of, reached-from, reached-by, Does}
 use Rattle.step.specs.declared.Stepped.{Stepped}
-use Rattle.step.specs.Promise.{IsStep}
+use Rattle.step.proofs.Arms.{room-as, noted-as}
+use Rattle.step.specs.Promise.{heard, IsStep, event-at}
 use borrow.Author.Needs.{needs}
 use Rattle.step.proofs.step.Statement.{statement}
 use Rattle.step.proofs.step.Tie as tie
@@ -26,7 +27,7 @@ cells-of p head tail top = record { h = p .h; t = p .t; n = p .n; head = head; t
 -- what the code gives, from what the access left and the row after it
 abbrev stepped : Accessed → Row → Stepped
 stepped d w =
-    record { row = w; h = d .h; t = d .t; n = d .n; head = d .head; tail = d .tail; top = d .top; event = d .event }
+    record { row = w; h = d .h; t = d .t; n = d .n; head = d .head; tail = d .tail; top = d .top }
 
 -- an entry that was looked up, its access done, and the row after it
 access-and-successor-are-the-step :
@@ -47,22 +48,29 @@ access-and-successor-are-the-step {p} {head} {tail} {top} {next} {mark} {next'} 
           after
           ∙ ap (λ (x : Entry). successor x (d .outcome)) looked
           ∙ ap (λ (x : Reached). successor (row-of (p .row)) (x .outcome)) there;
-      event =
-          did .tells
-          ∙ ap (λ (x : Entry). event-of (x .access) (d .outcome) (record { h = d .h; t = d .t; n = d .n })) looked
-          ∙ ap (λ (x : Reached). event-of (row-of (p .row) .access) (x .outcome) (x .registers)) there;
     }
+
+-- the event of that access is the step's
+event-is : (p : Place) (head tail top : ℕ) (next mark : List ℕ) {e : Entry} → e ≡ row-of (p .row) → heard (e .access) (p .operation .0) (cells-of p head tail top) next mark ≡ event-at p head tail top next mark
+unfolding heard event-at acted reached-from reached reach registers
+event-is p head tail top next mark looked = ap (λ (x : Entry). heard (x .access) (p .operation .0) (cells-of p head tail top) next mark) looked
+
+perform-requires : tie.Need-perform-requires
+perform-requires c κs =
+    let start = c .before .before .before .before .before .before .before .before .before .before .before .before .before .before in
+    (start .pre .0 .1, room-as (event-is _ _ _ _ _ _ (c .before .before .before .before .before .before .row-of .ensures)) (start .pre .1))
 
 returns : tie.Need-returns
 returns c =
-    access-and-successor-are-the-step
-    (c .before .before .before .before .before .before .before .before .row-of .ensures)
-    (c .before .before .before .before .before .perform .ensures)
-    (c .successor .ensures)
+    let looked = c .before .before .before .before .before .before .before .before .before .before .before .before .before .before .before .before .before .before .before .before .row-of .ensures in
+    let did = c .before .before .before .before .before .before .before .before .before .before .before .before .before .perform .ensures in (
+      access-and-successor-are-the-step looked (did .0) (c .successor .ensures),
+      noted-as _ _ _ (event-is _ _ _ _ _ _ looked) (did .1),
+    )
 
 pub step-spec : {M : Type 1} → statement M
 step-spec =
     tie.close
     (tie.spec
-    (λ c κs. search needs) (λ c κs. search needs) (λ c κs. search needs) (λ c. search needs) (λ c. search needs)
-    returns)
+    (λ c κs. search needs) perform-requires (λ c κs. search needs) (λ c. search needs) (λ c. search needs)
+    (λ c. search needs) (λ c. search needs) (λ c. search needs) (λ c. search needs) returns)

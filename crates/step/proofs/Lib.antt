@@ -1,0 +1,2 @@
+-- What each arm of the dispatch on accesses leaves.
+pub mod Arms
