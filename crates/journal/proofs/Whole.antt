@@ -114,7 +114,7 @@ module _ (j : Job) where
     holds-acts {ends} {first} {last} {by = by} {by′ = by′} e h s =
         record {
           first-at = λ q op. ap (λ f. f q) (s .entered .first-stored) ∙ first-more (at first) (h .first-at) q op;
-          last-at = λ q op. ap (λ f. f q) (s .entered .last-stored) ∙ last-more ends e (at last) (h .last-at) q op;
+          last-at = λ q op. ap (λ f. f q) (s .last-stored) ∙ last-more ends e (at last) (h .last-at) q op;
           agrees = subst (Agrees j (suc k)) (sym (s .event-stored)) (acts-keep j k o acts _ (h .agrees));
           by-at = by-more k by by′ (h .by-at) (s .entered .by-stored ∙ ap (upd (at by) (suc k)) (sym (acts .actor-is)));
           by-later = λ i later.

@@ -9,10 +9,9 @@ use Rattle.basics.specs.Maps.{at, upd}
 use Rattle.machine.specs.declared.Event.{Event}
 use Rattle.journal.specs.Cells.{cells, noted, earlier}
 
--- the operation's first step if it had none, its last if it ended, and who made the step
-pub record Entered (ends : Bool) (o k : ℕ) (first last by first′ last′ by′ : List ℕ) : Type 0 where
+-- the operation's first step if it had none, and who made the step
+pub record Entered (o k : ℕ) (first by first′ by′ : List ℕ) : Type 0 where
   pub first-stored : at first′ ≡ upd (at first) o (earlier (at first o) k)
-  pub last-stored : at last′ ≡ pick ends (upd (at last) o k) (at last)
   pub by-stored : at by′ ≡ upd (at by) k o
 
 -- the lists have the cells of the operation and of the step
@@ -21,7 +20,8 @@ pub record Spacious (o k : ℕ) (first last by : List ℕ) : Type 0 where
   pub in-last : o < length last
   pub in-by : k < length by
 
--- all that one step stores: also its event
+-- all that one step stores: also the operation's last step if it ended, and the step's event
 pub record Stored (e : Event) (ends : Bool) (o k : ℕ) (first last start link taken stands by first′ last′ start′ link′ taken′ stands′ by′ : List ℕ) : Type 0 where
-  pub entered : Entered ends o k first last by first′ last′ by′
+  pub entered : Entered o k first by first′ by′
+  pub last-stored : at last′ ≡ pick ends (upd (at last) o k) (at last)
   pub event-stored : cells start′ link′ taken′ stands′ ≡ noted e o k (cells start link taken stands)

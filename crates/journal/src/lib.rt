@@ -5,7 +5,7 @@ ghost use lib.ListN.{length};
 ghost use Rattle.basics.specs.Maps.{at, upd};
 ghost use Rattle.basics.specs.Choice.{pick};
 ghost use Rattle.journal.specs.Cells.{cells, noted, earlier, Room};
-ghost use Rattle.journal.specs.Stored.{Entered, Spacious};
+ghost use Rattle.journal.specs.Stored.{Entered};
 use machine::Event;
 use machine::Operation;
 use machine::Step;
@@ -83,22 +83,21 @@ pub fn note(
     }
 }
 
-// Stores the last step of an operation that ended.
-fn store_end(last: &mut [u16], ends: bool, o: u16, k: u16)
-    requires { ⌜ o < length (now last) ⌝ }
-    ensures { λ r. ⌜ at (now (last .exit)) ≡ pick ends (upd (at (now (last .entry))) o k) (at (now (last .entry))) ⌝ }
-{
-    if ends {
-        store(last, o, k);
-    }
-}
-
-// Enters step k, made by operation o, and whether the operation ended.
-pub fn enter(ends: bool, o: Operation, k: Step, first: &mut [u16], last: &mut [u16], by: &mut [u16])
-    requires { ⌜ Spacious (o .0) (k .0) (now first) (now last) (now by) ⌝ }
-    ensures { λ r. ⌜ Entered ends (o .0) (k .0) (now (first .entry)) (now (last .entry)) (now (by .entry)) (now (first .exit)) (now (last .exit)) (now (by .exit)) ⌝ }
+// Enters step k, made by operation o.
+pub fn enter(o: Operation, k: Step, first: &mut [u16], by: &mut [u16])
+    requires { ⌜ (o .0 < length (now first)) × (k .0 < length (now by)) ⌝ }
+    ensures { λ r. ⌜ Entered (o .0) (k .0) (now (first .entry)) (now (by .entry)) (now (first .exit)) (now (by .exit)) ⌝ }
 {
     store_first(first, o.0, k);
-    store_end(last, ends, o.0, k.0);
     store(by, k.0, o.0);
+}
+
+// Enters step k as the last of operation o, if it ended there.
+pub fn enter_end(ends: bool, o: Operation, k: Step, last: &mut [u16])
+    requires { ⌜ o .0 < length (now last) ⌝ }
+    ensures { λ r. ⌜ at (now (last .exit)) ≡ pick ends (upd (at (now (last .entry))) (o .0) (k .0)) (at (now (last .entry))) ⌝ }
+{
+    if ends {
+        store(last, o.0, k.0);
+    }
 }

@@ -3,6 +3,7 @@ use hands::begin;
 use hands::next_operation;
 use job::Kind;
 use journal::enter;
+use journal::enter_end;
 use machine::Place;
 use machine::Process;
 use machine::Step;
@@ -103,7 +104,8 @@ fn all_rest(run: Run, count: u16) -> bool
     true
 }
 
-// Makes step k, that of a place, and enters it in the journal.
+// Makes step k, that of a place, and enters it in the journal. What does not hang on the access is entered before it: a processor does
+// that while it waits for the row.
 fn make(
     place: Place,
     k: Step,
@@ -125,6 +127,7 @@ fn make(
     ensures { λ s. ⌜ Stored (event-at place head tail top (now (next .entry)) (now (mark .entry))) (ended (s .row)) (place .operation .0) (k .0) (now (first .entry)) (now (last .entry)) (now (start .entry)) (now (link .entry)) (now (taken .entry)) (now (stands .entry)) (now (by .entry)) (now (first .exit)) (now (last .exit)) (now (start .exit)) (now (link .exit)) (now (taken .exit)) (now (stands .exit)) (now (by .exit)) ⌝ }
 {
     let o = place.operation;
+    enter(o, k, first, by);
     let s = step(
         place,
         k,
@@ -139,7 +142,7 @@ fn make(
         stands,
     );
     let row = s.row;
-    enter(has_ended(row), o, k, first, last, by);
+    enter_end(has_ended(row), o, k, last);
     s
 }
 
