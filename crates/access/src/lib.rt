@@ -122,7 +122,7 @@ pub fn read_next_of_t(mut c: Cells, next: &[u16]) -> Accessed
 }
 
 // "Q3 set t's next from none to the own node: changed, Q4; else Q1."
-pub fn link(own: u16, c: Cells, next: &mut [u16]) -> Accessed
+pub fn link_own(own: u16, c: Cells, next: &mut [u16]) -> Accessed
     requires { ⌜ c .t < length (now next) ⌝ }
     ensures { λ d. ⌜ ((mark : List ℕ) → Does Link own c (now (next .entry)) mark d (now (next .exit)) mark) ⌝ }
 {

@@ -2,6 +2,20 @@
 // shared memory, with the private work after it."
 use access::Accessed;
 use access::Cells;
+use access::head_to_n;
+use access::link_own;
+use access::push;
+use access::raise_mark;
+use access::read_head;
+use access::read_mark;
+use access::read_next_of_h;
+use access::read_next_of_t;
+use access::read_tail;
+use access::read_top_to_put;
+use access::read_top_to_take;
+use access::tail_to_n;
+use access::tail_to_own;
+use access::top_to_next;
 use journal::note;
 use machine::Access;
 use machine::Entry;
@@ -67,100 +81,20 @@ fn perform(
     ensures { λ d. ⌜ cells (now (start .exit)) (now (link .exit)) (now (taken .exit)) (now (stands .exit)) ≡ Journal.noted (heard a own c (now (next .entry)) (now (mark .entry))) own (k .0) (cells (now (start .entry)) (now (link .entry)) (now (taken .entry)) (now (stands .entry))) ⌝ }
 {
     match a {
-        Access::ReadHead => noted(access::read_head(c), own, k, start, link, taken, stands),
-        Access::ReadTail => noted(access::read_tail(c), own, k, start, link, taken, stands),
-        Access::ReadNextOfH => noted(
-            access::read_next_of_h(c, next),
-            own,
-            k,
-            start,
-            link,
-            taken,
-            stands,
-        ),
-        Access::ReadNextOfT => noted(
-            access::read_next_of_t(c, next),
-            own,
-            k,
-            start,
-            link,
-            taken,
-            stands,
-        ),
-        Access::Link => noted(
-            access::link(own, c, next),
-            own,
-            k,
-            start,
-            link,
-            taken,
-            stands,
-        ),
-        Access::TailToOwn => noted(
-            access::tail_to_own(own, c),
-            own,
-            k,
-            start,
-            link,
-            taken,
-            stands,
-        ),
-        Access::TailToN => noted(access::tail_to_n(c), own, k, start, link, taken, stands),
-        Access::HeadToN => noted(access::head_to_n(c), own, k, start, link, taken, stands),
-        Access::ReadTopToPut => noted(
-            access::read_top_to_put(c),
-            own,
-            k,
-            start,
-            link,
-            taken,
-            stands,
-        ),
-        Access::ReadTopToTake => noted(
-            access::read_top_to_take(c),
-            own,
-            k,
-            start,
-            link,
-            taken,
-            stands,
-        ),
-        Access::ReadMark => noted(
-            access::read_mark(c, mark),
-            own,
-            k,
-            start,
-            link,
-            taken,
-            stands,
-        ),
-        Access::Push => noted(
-            access::push(own, c, next),
-            own,
-            k,
-            start,
-            link,
-            taken,
-            stands,
-        ),
-        Access::RaiseMark => noted(
-            access::raise_mark(c, mark),
-            own,
-            k,
-            start,
-            link,
-            taken,
-            stands,
-        ),
-        Access::TopToNext => noted(
-            access::top_to_next(c, next),
-            own,
-            k,
-            start,
-            link,
-            taken,
-            stands,
-        ),
+        Access::ReadHead => noted(read_head(c), own, k, start, link, taken, stands),
+        Access::ReadTail => noted(read_tail(c), own, k, start, link, taken, stands),
+        Access::ReadNextOfH => noted(read_next_of_h(c, next), own, k, start, link, taken, stands),
+        Access::ReadNextOfT => noted(read_next_of_t(c, next), own, k, start, link, taken, stands),
+        Access::Link => noted(link_own(own, c, next), own, k, start, link, taken, stands),
+        Access::TailToOwn => noted(tail_to_own(own, c), own, k, start, link, taken, stands),
+        Access::TailToN => noted(tail_to_n(c), own, k, start, link, taken, stands),
+        Access::HeadToN => noted(head_to_n(c), own, k, start, link, taken, stands),
+        Access::ReadTopToPut => noted(read_top_to_put(c), own, k, start, link, taken, stands),
+        Access::ReadTopToTake => noted(read_top_to_take(c), own, k, start, link, taken, stands),
+        Access::ReadMark => noted(read_mark(c, mark), own, k, start, link, taken, stands),
+        Access::Push => noted(push(own, c, next), own, k, start, link, taken, stands),
+        Access::RaiseMark => noted(raise_mark(c, mark), own, k, start, link, taken, stands),
+        Access::TopToNext => noted(top_to_next(c, next), own, k, start, link, taken, stands),
     }
 }
 

@@ -29,10 +29,10 @@ returns-4 : tie.Need-returns-4
 returns-4 c = done-and-noted (c .before .before .before .before .before .before .before .before .before .before .before .before .before .before .before .enum-told4 .given .1) (c .before .before .before .before .before .before .before .before .before .before .before .before .before .read-next-of-t .ensures _ _) _ _ (c .before .before .before .before .before .before .before .before .noted4 .ensures)
 
 noted-requires-5 : tie.Need-noted-requires-5
-noted-requires-5 c κs = room (c .before .before .before .before .before .before .before .before .enum-told5 .given .1) (c .before .before .before .before .before .before .link5 .ensures _) (c .before .before .before .before .before .before .before .before .before .before .before .before .before .before .before .before .pre .1)
+noted-requires-5 c κs = room (c .before .before .before .before .before .before .before .before .enum-told5 .given .1) (c .before .before .before .before .before .before .link-own .ensures _) (c .before .before .before .before .before .before .before .before .before .before .before .before .before .before .before .before .pre .1)
 
 returns-5 : tie.Need-returns-5
-returns-5 c = done-and-noted (c .before .before .before .before .before .before .before .before .before .before .before .before .before .before .before .before .before .enum-told5 .given .1) (c .before .before .before .before .before .before .before .before .before .before .before .before .before .before .before .link5 .ensures _) _ _ (c .before .before .before .before .before .before .before .before .noted5 .ensures)
+returns-5 c = done-and-noted (c .before .before .before .before .before .before .before .before .before .before .before .before .before .before .before .before .before .enum-told5 .given .1) (c .before .before .before .before .before .before .before .before .before .before .before .before .before .before .before .link-own .ensures _) _ _ (c .before .before .before .before .before .before .before .before .noted5 .ensures)
 
 noted-requires-6 : tie.Need-noted-requires-6
 noted-requires-6 c κs = room (c .before .before .before .before .before .enum-told6 .given .1) (c .before .before .before .before .tail-to-own .ensures _ _) (c .before .before .before .before .before .before .before .before .before .before .before .before .before .pre .1)

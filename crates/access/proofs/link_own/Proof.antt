@@ -1,4 +1,4 @@
--- `access::link` meets its contract: under what each test told, the definition computes to the answer. Assumes nothing.
+-- `access::link_own` meets its contract: under what each test told, the definition computes to the answer. Assumes nothing.
 use mathlib.Core.Path.{refl}
 use Rattle.machine.specs.Access.{access, have-set}
 use Rattle.machine.specs.Journal.{event-of}
@@ -9,8 +9,8 @@ use Rattle.basics.proofs.Choice.{equal-same, unequal-same}
 use Rattle.basics.proofs.Maps.{at-set}
 use Rattle.machine.specs.Memory.{with-next, yes-if}
 use borrow.Author.Needs.{needs}
-use Rattle.access.proofs.link.Statement.{statement}
-use Rattle.access.proofs.link.Tie as tie
+use Rattle.access.proofs.link_own.Statement.{statement}
+use Rattle.access.proofs.link_own.Tie as tie
 
 returns : tie.Need-returns
 unfolding access have-set reached-from reached-by memory-of event-of with-next yes-if pick at
@@ -23,8 +23,8 @@ returns-2 : tie.Need-returns-2
 unfolding access have-set reached-from reached-by memory-of event-of with-next yes-if pick at
 returns-2 c = λ mark. rw (c .answer2 .ensures) (record { reaches = rw (unequal-same (c .before .if1 .left)); tells = refl })
 
-pub link-spec : {M : Type 1} → statement M
-link-spec =
+pub link-own-spec : {M : Type 1} → statement M
+link-own-spec =
     tie.close
     (tie.spec
     (λ c. search needs) (λ c. search needs) (λ c. search needs) (λ c. search needs) (λ c. search needs)
