@@ -8,7 +8,7 @@ use Rattle.machine.specs.declared.Access.{Access}
 use Rattle.machine.specs.declared.Outcome.{Outcome}
 use Rattle.machine.specs.declared.Event.{Event}
 use Rattle.machine.specs.Memory.{Memory}
-use Rattle.machine.specs.Access.{Registers, Reached, access}
+use Rattle.machine.specs.Access.{Reached, access}
 use Rattle.machine.specs.Journal.{event-of}
 use Rattle.access.specs.declared.Cells.{Cells}
 use Rattle.access.specs.declared.Accessed.{Accessed}

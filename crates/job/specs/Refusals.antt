@@ -1,7 +1,7 @@
 -- Document 01, "Where a job is turned back": each number's condition, for a stream that may have padding behind it.
 -- "The first condition met in this order decides; a job meeting none is accepted."
 use Prim.Native.Nat.{ℕ, zero, suc, _+_, _-_, _/_}
-use mathlib.Core.Bool.{Bool, true, false, not, _||_, _&&_}
+use mathlib.Core.Bool.{Bool, false, not, _||_, _&&_}
 use mathlib.Core.List.{List, [], _∷_}
 use lib.ListN.{length}
 use Rattle.basics.specs.Choice.{pick, same, less}

@@ -1,17 +1,16 @@
 -- The journal of k steps, with the stores of step k + 1, is the journal of k + 1 steps. Assumes nothing.
 use mathlib.Core.Path.{_≡_, refl, sym, ap, subst, _∙_}
 use mathlib.Core.Logic.{_≢_, _⊎_, inl, inr}
-use Prim.Native.Nat.{ℕ, suc, max, _≤_, _<_}
-use native.Mathlib.Omega.{arith}
-use mathlib.Core.Bool.{true, false}
-use Rattle.basics.specs.Choice.{pick, same}
+use Prim.Native.Nat.{ℕ, suc, max}
+use mathlib.Core.Bool.{false}
+use Rattle.basics.specs.Choice.{same}
 use Rattle.basics.specs.Maps.{upd}
 use Rattle.basics.proofs.Choice.{split, pick-elim, same-equal, same-unequal}
 use Rattle.basics.proofs.Maps.{upd-elim}
 use Rattle.job.specs.Job.{Job}
 use Rattle.machine.specs.declared.Event.{Event}
 use Rattle.machine.specs.declared.Event.the-variants.{Quiet, Round, Linked, Moved, Late, Raised}
-use Rattle.machine.specs.Journal.{note, item-of, is-round, is-linked, start, link, taken, join}
+use Rattle.machine.specs.Journal.{note, item-of, is-round, is-linked, start, link, taken}
 use Rattle.machine.specs.Effects.{takes-at}
 use Rattle.machine.specs.Explained.{Operation}
 use Rattle.machine.proofs.Operations.{Idles, Acts}
@@ -19,7 +18,7 @@ use Rattle.machine.proofs.Operations.Locals.{actor}
 use Rattle.machine.proofs.Stamps.{start-other, start-unless, start-new, link-other, link-unless, link-new, taken-other, taken-unless, taken-new}
 use Rattle.machine.proofs.Life.{operation-some}
 use Rattle.machine.proofs.Life.Progress.{Going, deeds}
-use Rattle.machine.proofs.TakesAt.{Sounding, before-sound, Elsewhere, stands-idle, stands-elsewhere, stands-moved-first, stands-moved-again, stands-late, stands-raised}
+use Rattle.machine.proofs.TakesAt.{Sounding, before-sound, stands-idle, stands-elsewhere, stands-moved-first, stands-moved-again, stands-late, stands-raised}
 use Rattle.journal.specs.Cells.{Cells, noted, earlier}
 use Rattle.journal.specs.Holds.{Agrees}
 

@@ -5,14 +5,14 @@ use Prim.Native.Nat.{ℕ, max, _<_, _≤_}
 use native.Mathlib.Omega.{arith}
 use mathlib.Core.List.{List}
 use lib.ListN.{length, getD, set}
-use Rattle.basics.specs.Choice.{pick, same}
+use Rattle.basics.specs.Choice.{pick}
 use Rattle.basics.specs.Maps.{at, upd}
 use Rattle.basics.proofs.Choice.{pick-true, pick-false, equal-same, unequal-same}
 use Rattle.basics.proofs.Maps.{at-set, upd-id}
 use Rattle.machine.specs.Journal.{item-of}
 use Rattle.machine.specs.declared.Event.{Event}
 use Rattle.machine.specs.declared.Event.the-variants.{Quiet, Round, Linked, Moved, Late, Raised}
-use Rattle.journal.specs.Cells.{Cells, cells, noted, earlier}
+use Rattle.journal.specs.Cells.{cells, noted, earlier}
 
 -- the value stored is the one meant
 stored-as : (l : List ℕ) (i v w : ℕ) → i < length l → v ≡ w → at (set l i v) ≡ upd (at l) i w

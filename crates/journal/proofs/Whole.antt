@@ -14,7 +14,7 @@ use Rattle.machine.specs.declared.Row.{Row}
 use Rattle.machine.specs.declared.Row.the-variants.{Q1, Q2, Q3, Q4, Q5, T1, T2, T3, T4, T5, P1, P2, P3, P4, R1, R2, R3, R4, R5, Done, ItemN, ItemT, Empty}
 use Rattle.machine.specs.Access.{Registers}
 use Rattle.machine.specs.Run.{ended}
-use Rattle.machine.specs.Journal.{Answer, note, answer-of, is-answer, first, last}
+use Rattle.machine.specs.Journal.{note, answer-of, is-answer, first, last}
 use Rattle.machine.specs.Explained.{Operation}
 use Rattle.machine.proofs.Operations.{Idles, Acts}
 use Rattle.machine.proofs.Operations.Locals.{actor}

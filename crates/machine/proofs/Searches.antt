@@ -97,13 +97,6 @@ module _ (f : ℕ → Bool) where
           clash c = omega arith
       by-cases (inr b) c (inl y) below = below y low b
 
-  pub none-earliest : (k : ℕ) → ((s : ℕ) → 1 ≤ s → s ≤ k → f s ≡ false) → earliest f k ≡ 0
-  none-earliest k none = go (split (earliest f k) 0)
-    where
-      go : (earliest f k ≡ 0) ⊎ (earliest f k ≢ 0) → earliest f k ≡ 0
-      go (inl z) = z
-      go (inr n) = absurd (true≢false (sym (earliest-meets k n) ∙ none (earliest f k) (omega arith) (earliest-le k)))
-
   -- a step that meets the test is not before it
   pub earliest-least : (k s : ℕ) → f s ≡ true → 1 ≤ s → s ≤ k → (earliest f k ≢ 0) × (earliest f k ≤ s)
   earliest-least k s t low high = (some-found, omega (arith, earliest-stays s k high found-by, earliest-le s))
@@ -166,23 +159,6 @@ module _ (f : ℕ → Bool) where
       by-cases a (inl t) below = omega (arith, latest-new l t, latest-le k)
       by-cases (inl e) (inr o) below = omega (arith, ap (latest f) e)
       by-cases (inr b) (inr o) below = omega (arith, latest-kept l o, below b)
-
-  pub latest-none : (k s : ℕ) → latest f k ≡ 0 → 1 ≤ s → s ≤ k → f s ≡ false
-  latest-none k s z low high = go (both (f s))
-    where
-      go : (f s ≡ true) ⊎ (f s ≡ false) → f s ≡ false
-      go (inl t) = absurd (absurd-of (latest-greatest k s t high))
-        where
-          absurd-of : s ≤ latest f k → ⊥
-          absurd-of h = omega arith
-      go (inr e) = e
-
-  pub none-latest : (k : ℕ) → ((s : ℕ) → 1 ≤ s → s ≤ k → f s ≡ false) → latest f k ≡ 0
-  none-latest k none = go (split (latest f k) 0)
-    where
-      go : (latest f k ≡ 0) ⊎ (latest f k ≢ 0) → latest f k ≡ 0
-      go (inl z) = z
-      go (inr n) = absurd (true≢false (sym (latest-meets k n) ∙ none (latest f k) (omega arith) (latest-le k)))
 
 -- each number is at most the largest
 pub largest-bounds : (f : ℕ → ℕ) (l : List ℕ) (x : ℕ) → List·Memᴰ x l → f x ≤ largest f l

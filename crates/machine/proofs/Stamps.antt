@@ -10,7 +10,7 @@ use Rattle.job.specs.Job.{Job}
 use Rattle.machine.specs.declared.Event.the-variants.{Round, Linked, Moved}
 use Rattle.machine.specs.Journal.{Answer, Note, is-answer, is-round, is-linked, item-of, moved-to, idle, note, made, begins-round, links, joins, ends, first, last, answer, start, link, join, taken}
 use Rattle.machine.specs.Effects.{first-move}
-use Rattle.machine.proofs.Searches.{earliest-zero, earliest-kept, earliest-new, earliest-stays, earliest-le, latest-zero, latest-kept, latest-new, latest-le, latest-monotone}
+use Rattle.machine.proofs.Searches.{earliest-zero, earliest-kept, earliest-new, earliest-stays, earliest-le, latest-zero, latest-kept, latest-new, latest-le}
 use Rattle.machine.proofs.Operations.{actor}
 
 -- a step of operation o that meets a test
@@ -197,21 +197,9 @@ module _ (j : Job) (k o : ℕ) where
     unfolding join
     join-stays n = earliest-stays (joins j o) k l later n
 
-    pub taken-stays : join j k o ≢ 0 → taken j l o ≡ taken j k o
-    unfolding taken
-    taken-stays n = ap (λ s. item-of (note j s .event)) (join-stays n)
-
     pub last-stays : last j k o ≢ 0 → last j l o ≡ last j k o
     unfolding last
     last-stays n = earliest-stays (ends j o) k l later n
-
-    pub answer-stays : last j k o ≢ 0 → answer j l o ≡ answer j k o
-    unfolding answer
-    answer-stays n = ap (λ s. note j s .answer) (last-stays n)
-
-    pub start-monotone : start j k o ≤ start j l o
-    unfolding start
-    start-monotone = latest-monotone (begins-round j o) k l later
 
 -- the first move of Head to an item
 module _ (j : Job) (item : ℕ) where

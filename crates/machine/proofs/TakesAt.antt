@@ -2,10 +2,9 @@
 -- operation raises its mark. Code that keeps one cell an item follows this. Assumes nothing.
 use mathlib.Core.Path.{_≡_, refl, sym, ap, subst, _∙_}
 use mathlib.Core.Logic.{_≢_, _⊎_, inl, inr}
-use Prim.Native.Nat.{ℕ, zero, suc, max, _≤_, _<_}
+use Prim.Native.Nat.{ℕ, suc, max, _≤_, _<_}
 use native.Mathlib.Omega.{arith}
-use mathlib.Core.Bool.{Bool, true, false}
-use mathlib.Core.List.{List·Memᴰ}
+use mathlib.Core.Bool.{true, false}
 use Rattle.basics.specs.Choice.{less}
 use Rattle.basics.proofs.Choice.{split, both, less-lt, less-le}
 use Rattle.job.specs.declared.Kind.{Kind}
@@ -15,7 +14,7 @@ use Rattle.machine.specs.declared.Event.{Event}
 use Rattle.machine.specs.declared.Event.the-variants.{Quiet, Round, Linked, Moved, Late, Raised}
 use Rattle.machine.specs.Memory.{Memory}
 use Rattle.machine.specs.Journal.{Answer, note, start, taken, moved-to, item-of, is-round}
-use Rattle.machine.specs.Effects.{largest, takers, first-move, latest-start, takes-at}
+use Rattle.machine.specs.Effects.{largest, takers, latest-start, takes-at}
 use Rattle.machine.specs.Explained.{Operation}
 use Rattle.machine.proofs.Searches.{largest-bounds, largest-attained}
 use Rattle.machine.proofs.Operations.Locals.{Local, actor}

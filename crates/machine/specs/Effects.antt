@@ -1,5 +1,4 @@
 -- Where an effect stands, which operations took effect, and which overlap. Document 01, "Where an effect stands".
-use mathlib.Core.Path.{_≡_}
 use mathlib.Core.Logic.{_≢_}
 use Prim.Native.Nat.{ℕ, zero, suc, _<_, max}
 use mathlib.Core.Bool.{Bool, true, false, not, _&&_, _||_}

@@ -1,7 +1,6 @@
 -- The report as bytes. Document 01, "The report, whole": operation lines in number order, record lines in step order, then `left`. "Each
 -- line ends in a newline."
 use Prim.Native.Nat.{ℕ, zero, suc, _+_, _/_}
-use mathlib.Core.Bool.{Bool, true, false}
 use mathlib.Core.List.{List, [], _∷_, _++_}
 use lib.ListN.{length}
 use Rattle.basics.specs.Choice.{pick, same}

@@ -9,7 +9,6 @@ use Rattle.job.specs.Job.{Job}
 use Rattle.machine.specs.declared.Row.{Row}
 use Rattle.machine.specs.declared.Row.the-variants.{Q1, Q2, Q3, Q4, Q5, T1, T2, T3, T4, T5, P1, P2, P3, P4, R1, R2, R3, R4, R5, Done, ItemN, ItemT, Empty}
 use Rattle.machine.specs.declared.Place.{Place}
-use Rattle.machine.specs.declared.Entry.{Entry}
 use Rattle.machine.specs.Memory.{Memory, fresh-memory}
 use Rattle.machine.specs.Table.{row-of, successor, first-row}
 use Rattle.machine.specs.Access.{Registers, Reached, access}

@@ -1,9 +1,8 @@
 -- The traces that document 01 marks M ("M is proved"), whole, as one table of jobs and reports. The reports are written from the paper
 -- by hand. `traces-proved` says that the definitions accept every job and give its report, by computation.
 use mathlib.Core.Path.{_≡_, refl}
-use Prim.Native.Nat.{ℕ, zero}
+use Prim.Native.Nat.{ℕ}
 use Prim.Native.String.{String}
-use mathlib.Core.Bool.{true, false}
 use mathlib.Core.List.{List, [], _∷_, _++_, map}
 use lib.ListN.{length}
 use Rattle.basics.specs.Choice.{pick, same, less}

@@ -40,9 +40,6 @@ over-both m x y m′ part a k p size h e =
     ∙ sym (append-assoc x y (drop (length y) (drop (length x) m)))
     ∙ ap (λ (t : List ℕ). x ++ y ++ t) (drop-drop (length y) (length x) m ∙ ap (λ (n : ℕ). drop n m) (sym (length-append x y)))
 
-pub length-over : (x m : List ℕ) → length x ≤ length m → length (over x m) ≡ length m
-length-over x m h = length-append x (drop (length x) m) ∙ (let e : length (drop (length x) m) ≡ length m - length x = length-drop (length x) m in omega arith)
-
 -- the same, where the part goes to the end
 pub over-behind : (m x y m′ part : List ℕ) (a : ℕ) → m′ ≡ over x m → length x ≡ a → a + length y ≤ length m′
     → part ≡ over y (take (length m′ - a) (drop a m′)) → take a m′ ++ (part ++ drop (length m′ - a) (drop a m′)) ≡ over (x ++ y) m
@@ -57,10 +54,6 @@ zeros-over l part k size e =
 
 pub length-part : (m : List ℕ) (a k : ℕ) → a + k ≤ length m → length (take k (drop a m)) ≡ k
 length-part m a k h = let e : length (drop a m) ≡ length m - a = length-drop a m in length-take-le k (drop a m) (omega arith)
-
--- the part to the end is what is behind
-pub part-behind : (m : List ℕ) (a : ℕ) → take (length m - a) (drop a m) ≡ drop a m
-part-behind m a = let e : length (drop a m) ≡ length m - a = length-drop a m in take-all (length m - a) (drop a m) (omega arith)
 
 -- two memories that are alike from `a` on are alike from `b` on
 pub drop-more : (x y : List ℕ) (a b : ℕ) → a ≤ b → drop a x ≡ drop a y → drop b x ≡ drop b y

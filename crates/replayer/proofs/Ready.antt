@@ -1,6 +1,6 @@
 -- What a stream that is ready has for its run and for its report. Assumes nothing.
-use mathlib.Core.Path.{_≡_, refl, sym, ap, subst, _∙_}
-use Prim.Native.Nat.{ℕ, zero, suc, _+_, _*_, _≤_, _<_}
+use mathlib.Core.Path.{_≡_, sym, subst}
+use Prim.Native.Nat.{ℕ, suc, _+_, _*_, _≤_, _<_}
 use native.Mathlib.Omega.{arith}
 use mathlib.Core.List.{List}
 use lib.ListN.{length, getD, replicate, length-replicate}
@@ -11,11 +11,10 @@ use Rattle.job.specs.declared.Kind.{Kind}
 use Rattle.job.specs.Stream.{operations, schedule-length, process, record-at, scheduled, value, stream-length}
 use Rattle.job.specs.Refusals.{most-operations, most-processes, most-steps}
 use Rattle.job.specs.File.{most-blocks, most-stream}
-use Rattle.job.specs.Job.{Job, job-of}
+use Rattle.job.specs.Job.{job-of}
 use Rattle.machine.specs.Idle.{IdleBehind}
 use Rattle.machine.specs.Run.{state-after}
 use Rattle.machine.specs.Report.{report}
-use Rattle.machine.specs.Explained.{Operation}
 use Rattle.machine.proofs.Sizes.{Fits, report-bounded}
 use Rattle.run.specs.Promise.{Runnable, Room, AllBlank, Ran}
 use Rattle.run.proofs.Loop.{SameLengths}

@@ -1,15 +1,15 @@
 -- The report of an accepted file of bytes is at most 32,768 long, so its length fits its half of a packed answer. Assumes nothing.
-use mathlib.Core.Path.{_≡_, sym, ap, subst, _∙_}
-use Prim.Native.Nat.{ℕ, zero, suc, _+_, _-_, _*_, _≤_, _<_}
+use mathlib.Core.Path.{_≡_, sym, ap, subst}
+use Prim.Native.Nat.{ℕ, zero, suc, _+_, _*_, _≤_, _<_}
 use native.Mathlib.Omega.{arith}
-use mathlib.Core.List.{List, _++_}
+use mathlib.Core.List.{List}
 use lib.ListN.{length, getD}
 use Rattle.basics.specs.Maps.{at}
 use Rattle.basics.specs.Bytes.{Bytes}
 use Rattle.basics.proofs.Bytes.{bytes-none, bytes-take, bytes-drop, bytes-append}
 use Rattle.block.specs.Block.{block-size, payload-size, payload-of}
 use Rattle.job.specs.Refusals.{most-operations}
-use Rattle.job.specs.File.{most-stream, zeros, block-at, block-count, payloads, joined, stream-of, file-refusal}
+use Rattle.job.specs.File.{block-at, block-count, payloads, joined, stream-of, file-refusal}
 use Rattle.job.specs.Job.{Job, job-of}
 use Rattle.machine.specs.Report.{report}
 use Rattle.machine.proofs.Sizes.{report-bounded}

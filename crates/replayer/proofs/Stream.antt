@@ -12,13 +12,12 @@ use Rattle.basics.specs.Choice.{pick, same, less}
 use Rattle.basics.specs.Maps.{at}
 use Rattle.basics.specs.Words.{word}
 use Rattle.basics.proofs.Choice.{split, compare, same-equal, less-lt, less-le}
-use Rattle.job.specs.declared.Kind.{Kind}
 use Rattle.job.specs.declared.Kind.the-variants.{Queue, Stack}
 use Rattle.job.specs.Stream.{kind, processes, operations, schedule-length, record-at, process, action, value, scheduled, stream-length}
 use Rattle.job.specs.Refusals.{exact-count, any, outside, most-operations, most-processes, most-steps, bad-padding, bad-operations, bad-processes, bad-schedule-length, bad-schedule, bad-entry}
 use Rattle.block.specs.Block.{payload-size}
 use Rattle.job.specs.File.{most-blocks, most-stream, zeros, joined, stream-of, file-refusal}
-use Rattle.job.specs.Job.{Job, job-of}
+use Rattle.job.specs.Job.{job-of}
 use Rattle.run.specs.Promise.{Blank}
 use Rattle.job.proofs.Conditions.{or-both}
 use Rattle.job.proofs.Accepted.{Good-file, accepted-good}

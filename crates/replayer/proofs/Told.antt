@@ -1,20 +1,17 @@
 -- What a run leaves in lent memory is what the report is written from. Assumes nothing.
-use mathlib.Core.Path.{_≡_, sym, ap, _∙_}
-use Prim.Native.Nat.{ℕ, _≤_, _<_}
+use mathlib.Core.Path.{ap}
+use Prim.Native.Nat.{ℕ, _≤_}
 use native.Mathlib.Omega.{arith}
 use mathlib.Core.List.{List}
-use lib.ListN.{length}
-use Rattle.basics.specs.Maps.{at}
 use Rattle.job.specs.Refusals.{most-operations, most-steps}
 use Rattle.job.specs.Job.{Job}
 use Rattle.machine.specs.Memory.{Memory}
 use Rattle.machine.specs.Run.{state-after}
-use Rattle.machine.specs.Explained.{Operation}
 use Rattle.access.specs.View.{memory-of}
 use Rattle.journal.specs.Cells.{cells}
 use Rattle.journal.specs.Holds as Journal
 use Rattle.run.specs.Promise.{Ran, Room}
-use Rattle.report.specs.Holds.{Column, Holds, Remembers}
+use Rattle.report.specs.Holds.{Holds, Remembers}
 
 module _ {j : Job} {k head tail top : ℕ} {next mark first last start link taken stands by : List ℕ} (few : j .count ≤ most-operations) (short : k ≤ most-steps) (room : Room next mark first last start link taken stands by) (ran : Ran j k head tail top next mark first last start link taken stands by) where
   pub told : Holds j k first last start link taken stands by

@@ -8,7 +8,7 @@ use Rattle.basics.specs.Choice.{same}
 use Rattle.job.specs.declared.Kind.{Kind}
 use Rattle.job.specs.Stream.{operations}
 use Rattle.job.specs.Job.{job-of}
-use Rattle.machine.specs.Run.{seek, operation-after}
+use Rattle.machine.specs.Run.{operation-after}
 use Rattle.machine.proofs.Operations.Hands.{seek-to}
 use Rattle.run.specs.Promise.{Goes}
 

@@ -1,34 +1,29 @@
 -- What the run's loop keeps, and what each part of a turn needs from it. Assumes nothing.
-use mathlib.Core.Path.{_≡_, refl, sym, ap, subst, _∙_}
-use mathlib.Core.Logic.{_≢_}
-use Prim.Native.Nat.{ℕ, zero, suc, _+_, _*_, _≤_, _<_}
+use mathlib.Core.Path.{_≡_, sym, ap, subst, _∙_}
+use Prim.Native.Nat.{ℕ, suc, _+_, _*_, _≤_, _<_}
 use native.Mathlib.Numerals.{add-one}
 use native.Mathlib.Omega.{arith}
-use mathlib.Core.Bool.{Bool, true, false}
+use mathlib.Core.Bool.{true, false}
 use mathlib.Core.List.{List}
 use lib.ListN.{length, getD, set}
-use Rattle.basics.specs.Choice.{less}
 use Rattle.basics.specs.Maps.{at}
-use Rattle.basics.proofs.Choice.{lt-less, le-less, pick-else}
+use Rattle.basics.proofs.Choice.{lt-less, le-less}
 use Rattle.job.specs.declared.Kind.{Kind}
-use Rattle.job.specs.Stream.{operations, scheduled, schedule-length}
+use Rattle.job.specs.Stream.{operations, scheduled}
 use Rattle.job.specs.Refusals.{most-operations, most-processes, most-steps}
 use Rattle.job.specs.Job.{Job, job-of}
 use Rattle.machine.specs.declared.Operation as Machine
-use Rattle.machine.specs.declared.Event.{Event}
 use Rattle.machine.specs.declared.Place.{Place}
 use Rattle.machine.specs.Memory.{Memory, fresh-memory}
 use Rattle.machine.specs.Run.{ended, resting, registers, state-after, fresh-state, reached}
 use Rattle.machine.specs.Journal.{item-of, acted}
-use Rattle.machine.specs.Explained.{Operation}
 use Rattle.machine.proofs.Bounds.{MemoryWithin, PlaceWithin, within, reached-within, item-within}
 use Rattle.machine.proofs.Stamps.{first-zero, last-zero, start-zero, link-zero, join-zero, taken-none}
 use Rattle.machine.proofs.TakesAt.{stands-zero}
 use Rattle.access.specs.View.{memory-of}
 use Rattle.step.specs.declared.Stepped.{Stepped}
-use Rattle.step.specs.Promise.{Inside, IsStep, event-at}
+use Rattle.step.specs.Promise.{IsStep, event-at}
 use Rattle.journal.specs.Cells.{cells}
-use Rattle.journal.specs.Holds.{Agrees, Holds}
 use Rattle.journal.specs.Stored.{Stored}
 use Rattle.run.specs.Promise.{Goes, Runnable, Room, AllBlank, Ran, InPlace, nowhere, Makes}
 use Rattle.run.proofs.Turned.{made-from, followed, followed-place, ran-rests, ran-acts, places-rest, places-act}

@@ -41,6 +41,3 @@ module _ {stream : List ℕ} {object : Kind} {count steps : ℕ} (r : Runnable s
 -- behind the last step there is none
 pub none-behind : (j : Job) {reach k : ℕ} → reach ≤ k → k ≤ reach → IdleBehind j reach k
 none-behind j within over = record { within = within; idle-step = λ s later upto. absurd (let x : ⊥ = omega arith in x) }
-
-pub none-behind-end : (j : Job) (k : ℕ) → IdleBehind j k k
-none-behind-end j k = none-behind j (omega arith) (omega arith)

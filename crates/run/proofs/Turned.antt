@@ -1,32 +1,30 @@
 -- One turn of the run's loop: what the code holds after k steps, with the step that it makes, is what it holds after k + 1. Assumes nothing.
-use mathlib.Core.Path.{_≡_, refl, sym, ap, subst, _∙_}
+use mathlib.Core.Path.{_≡_, sym, ap, subst, _∙_}
 use mathlib.Core.Logic.{_≢_, _⊎_, inl, inr}
 use Prim.Native.Nat.{ℕ, suc, _≤_, _<_}
 use native.Mathlib.Omega.{arith}
-use mathlib.Core.Bool.{Bool, true, false}
+use mathlib.Core.Bool.{true, false}
 use mathlib.Core.List.{List}
-use lib.ListN.{length, getD, set, length-set}
+use lib.ListN.{getD, set, length-set}
 use lib.Seq.{getD-set-same, getD-set-other}
-use Rattle.basics.specs.Choice.{pick, less}
+use Rattle.basics.specs.Choice.{pick}
 use Rattle.basics.specs.Maps.{upd}
-use Rattle.basics.proofs.Choice.{split, pick-then, pick-else, lt-less, le-less}
+use Rattle.basics.proofs.Choice.{split, pick-then, pick-else}
 use Rattle.basics.proofs.Maps.{upd-here, upd-there}
 use Rattle.job.specs.Refusals.{most-processes}
-use Rattle.job.specs.Job.{Job, job-of}
+use Rattle.job.specs.Job.{Job}
 use Rattle.machine.specs.declared.Operation as Machine
-use Rattle.machine.specs.declared.Event.{Event}
 use Rattle.machine.specs.declared.Place.{Place}
 use Rattle.machine.specs.Memory.{Memory}
-use Rattle.machine.specs.Access.{Registers, Reached}
+use Rattle.machine.specs.Access.{Reached}
 use Rattle.machine.specs.Run.{State, before, operation-after, ended, reached, row-after, place-after, resting, step, state-after}
-use Rattle.machine.specs.Journal.{Note, idle, acted, note, is-answer, answer-of}
+use Rattle.machine.specs.Journal.{Note, idle, acted, note, is-answer}
 use Rattle.machine.proofs.Operations.{Idles, Acts, step-made}
 use Rattle.machine.proofs.Operations.Locals.{actor}
 use Rattle.machine.proofs.Bounds.{within}
 use Rattle.access.specs.View.{memory-of}
 use Rattle.step.specs.declared.Stepped.{Stepped}
 use Rattle.step.specs.Promise.{IsStep, event-at}
-use Rattle.journal.specs.Holds.{Holds}
 use Rattle.journal.specs.Stored.{Stored}
 use Rattle.journal.proofs.Whole.{answers-at-end, holds-idle, holds-acts}
 use Rattle.run.specs.Promise.{nowhere, InPlace, Ran}

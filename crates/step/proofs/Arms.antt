@@ -4,7 +4,7 @@ use Prim.Native.Nat.{ℕ}
 use mathlib.Core.List.{List}
 use Rattle.machine.specs.declared.Access.{Access}
 use Rattle.machine.specs.declared.Event.{Event}
-use Rattle.machine.specs.Access.{Registers, Reached}
+use Rattle.machine.specs.Access.{Reached}
 use Rattle.machine.specs.Journal.{event-of}
 use Rattle.access.specs.declared.Cells as Access
 use Rattle.access.specs.declared.Accessed.{Accessed}

@@ -6,7 +6,6 @@ use lib.ListN.{length}
 use Rattle.machine.specs.declared.Access.{Access}
 use Rattle.machine.specs.declared.Event.{Event}
 use Rattle.machine.specs.declared.Place.{Place}
-use Rattle.machine.specs.Access.{Registers, Reached}
 use Rattle.machine.specs.Run.{reached, row-after}
 use Rattle.machine.specs.Journal.{event-of, acted}
 use Rattle.access.specs.declared.Cells.{Cells}

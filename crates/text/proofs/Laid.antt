@@ -1,7 +1,7 @@
 -- Laws of `laid` and `Wrote`: laying one thing behind another is laying both, and a store is laying one byte. Assumes nothing.
 use mathlib.Core.Path.{_≡_, refl, sym, ap, subst, _∙_}
 use Prim.Native.Nat.{ℕ, suc, _+_, _≤_, _<_}
-use native.Mathlib.Nat.{add-zero, zero-add, add-assoc}
+use native.Mathlib.Nat.{add-zero, add-assoc}
 use native.Mathlib.Numerals.{add-one}
 use native.Mathlib.Omega.{arith}
 use mathlib.Core.List.{List, [], _∷_, _++_, append-assoc, append-nil}
@@ -15,10 +15,6 @@ laid-nothing out at =
     ap (λ (l : List ℕ). l ++ drop (at + 0) out) (append-nil (take at out))
     ∙ ap (λ (n : ℕ). take at out ++ drop n out) (add-zero at)
     ∙ take-append-drop at out
-
-pub laid-at-front : (out bytes : List ℕ) → laid out 0 bytes ≡ bytes ++ drop (length bytes) out
-unfolding laid
-laid-at-front out bytes = ap (λ (n : ℕ). bytes ++ drop n out) (zero-add (length bytes))
 
 module _ (out : List ℕ) (at : ℕ) (bytes : List ℕ) (room : at + length bytes ≤ length out) where
   length-front : length (take at out ++ bytes) ≡ at + length bytes

@@ -3,7 +3,7 @@
 use mathlib.Core.Path.{_≡_, refl, sym, ap, subst, _∙_}
 use mathlib.Core.Logic.{_≢_}
 use Prim.Native.Nat.{ℕ, zero, suc, _≤_, _<_}
-use mathlib.Core.Bool.{true, not}
+use mathlib.Core.Bool.{true}
 use mathlib.Core.List.{List·Memᴰ}
 use native.Mathlib.Omega.{arith}
 use Rattle.basics.proofs.Choice.{equal-same, unequal-same}
@@ -106,14 +106,11 @@ module _ (j : Job) (is-stack : j .object ≡ Stack) (k t : ℕ) (some : t ≢ 0)
   unfolding deeds
   taken-has-line o op e z = taker-of j is-stack k o op t e some .joined .started (omega (arith, line-after-rounds o op e))
 
-  -- a node has a line exactly if an R3 on it was made, and if it is marked
+  -- a node on which an R3 was made has a line, and one with a line is marked
   pub raised-has-line : raised j k t ≢ 0 → latest-start j k t ≢ 0
   raised-has-line n =
       let o : (o : ℕ) × Operation j o × (taken j k o ≡ t) = raised-has-taker n in
       taken-has-line (o .0) (o .1) (o .2)
-
-  pub marked-has-line : memory j k .mark t ≢ 0 → latest-start j k t ≢ 0
-  marked-has-line n = raised-has-line (keeps j is-stack k .marked-raised t n)
 
   pub line-marked : latest-start j k t ≢ 0 → memory j k .mark t ≢ 0
   line-marked n = keeps j is-stack k .raised-marked t (takers-line n .was-raised)

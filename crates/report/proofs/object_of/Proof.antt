@@ -1,7 +1,6 @@
 -- `report::object_of` meets its contract. Assumes nothing.
 use mathlib.Core.Path.{sym}
 use native.Mathlib.Omega.{arith}
-use borrow.Author.Needs.{needs}
 use Rattle.basics.specs.Maps.{at}
 use Rattle.basics.proofs.Choice.{pick-then, pick-else, equal-same, unequal-same}
 use Rattle.job.specs.Stream.{kind, stream-length}

@@ -1,7 +1,7 @@
 -- `run::line_up` meets its contract: the loop's invariant is that the places before p are lined up; the measure is how many are left. Assumes nothing.
 use borrow.Author.Needs.{needs}
 use native.Mathlib.Omega.{arith}
-use Prim.Native.Nat.{ℕ, _-_, _≤_}
+use Prim.Native.Nat.{_-_, _≤_}
 use Rattle.job.specs.Refusals.{most-processes}
 use Rattle.job.specs.Job.{job-of}
 use Rattle.run.proofs.Places.{LinedUp, lined-first, lined-next, lined-all}

@@ -2,12 +2,12 @@
 -- steps; the measure is how many steps are left. Where every process rests, the steps that are left change nothing. Assumes nothing.
 use borrow.Author.Needs.{needs}
 use native.Mathlib.Omega.{arith}
-use mathlib.Core.Path.{_≡_, refl, sym, _∙_}
+use mathlib.Core.Path.{refl, sym, _∙_}
 use Prim.Native.Nat.{_-_}
 use Rattle.job.specs.Refusals.{most-operations, most-steps}
 use Rattle.run.proofs.Places.{eight-kept, each-rests}
 use Rattle.run.proofs.Turned.{followed-ended, followed-going}
-use Rattle.run.proofs.Loop.{Turning, SameLengths, later, goes, entry-byte, byte-in-range, ran-at-start, turning-rests, makes, turning-acts, finished}
+use Rattle.run.proofs.Loop.{Turning, later, goes, entry-byte, byte-in-range, ran-at-start, turning-rests, makes, turning-acts, finished}
 use Rattle.run.proofs.Settled.{ran-to-end, idle-behind, none-behind}
 use Rattle.run.proofs.run_all.Statement.{statement}
 use Rattle.run.proofs.run_all.Tie as tie

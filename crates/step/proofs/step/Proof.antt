@@ -6,7 +6,7 @@ use mathlib.Core.List.{List}
 use Rattle.machine.specs.declared.Row.{Row}
 use Rattle.machine.specs.declared.Place.{Place}
 use Rattle.machine.specs.declared.Entry.{Entry}
-use Rattle.machine.specs.Access.{Registers, Reached}
+use Rattle.machine.specs.Access.{Reached}
 use Rattle.machine.specs.Table.{row-of, successor}
 use Rattle.machine.specs.Run.{reach, registers, reached, row-after}
 use Rattle.machine.specs.Journal.{acted}

@@ -1,6 +1,5 @@
 -- `table::entry` meets its contract: the constant is the definition's table. Assumes nothing.
 use mathlib.Core.Path.{refl}
-use native.Mathlib.Omega.{arith}
 use borrow.Author.Needs.{needs}
 use Rattle.machine.specs.Table.{row, table}
 use Rattle.table.specs.Position.{entry-at}
