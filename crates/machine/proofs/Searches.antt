@@ -151,15 +151,6 @@ module _ (f : ℕ → Bool) where
       by-cases (inl e) (inr o) below = absurd (true≢false (sym t ∙ ap f e ∙ o))
       by-cases (inr b) (inr o) below = omega (arith, latest-kept k o, below b)
 
-  pub latest-monotone : (k l : ℕ) → k ≤ l → latest f k ≤ latest f l
-  latest-monotone k zero h = omega (arith, latest-le k)
-  latest-monotone k (suc l) h = by-cases (last-or-before h) (both (f (suc l))) (latest-monotone k l)
-    where
-      by-cases : (k ≡ suc l) ⊎ (k ≤ l) → (f (suc l) ≡ true) ⊎ (f (suc l) ≡ false) → (k ≤ l → latest f k ≤ latest f l) → latest f k ≤ latest f (suc l)
-      by-cases a (inl t) below = omega (arith, latest-new l t, latest-le k)
-      by-cases (inl e) (inr o) below = omega (arith, ap (latest f) e)
-      by-cases (inr b) (inr o) below = omega (arith, latest-kept l o, below b)
-
 -- each number is at most the largest
 pub largest-bounds : (f : ℕ → ℕ) (l : List ℕ) (x : ℕ) → List·Memᴰ x l → f x ≤ largest f l
 unfolding largest

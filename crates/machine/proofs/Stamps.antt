@@ -193,14 +193,6 @@ module _ (j : Job) (k o : ℕ) where
     unfolding link
     link-stays n = earliest-stays (links j o) k l later n
 
-    pub join-stays : join j k o ≢ 0 → join j l o ≡ join j k o
-    unfolding join
-    join-stays n = earliest-stays (joins j o) k l later n
-
-    pub last-stays : last j k o ≢ 0 → last j l o ≡ last j k o
-    unfolding last
-    last-stays n = earliest-stays (ends j o) k l later n
-
 -- the first move of Head to an item
 module _ (j : Job) (item : ℕ) where
   unfoldable moves-to : ℕ → Bool
