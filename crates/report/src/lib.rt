@@ -311,11 +311,11 @@ pub fn write_report(
     mark: &[u16],
     head: u16,
     top: u16,
-    reach: u16,
+    reach: Step,
 ) -> usize
     requires { ⌜ Holds (job-of (now stream)) (job-of (now stream) .steps) (now first) (now last) (now start) (now link) (now taken) (now stands) (now by) ⌝ }
     requires { ⌜ Remembers (job-of (now stream) .count) (state-after (job-of (now stream)) (job-of (now stream) .steps) .memory) (now next) (now mark) head top ⌝ }
-    requires { ⌜ (stream-length (now stream) ≤ length (now stream)) × (length (report (job-of (now stream))) ≤ length (now out)) × IdleBehind (job-of (now stream)) reach (job-of (now stream) .steps) ⌝ }
+    requires { ⌜ (stream-length (now stream) ≤ length (now stream)) × (length (report (job-of (now stream))) ≤ length (now out)) × IdleBehind (job-of (now stream)) (reach .0) (job-of (now stream) .steps) ⌝ }
     ensures { λ r. ⌜ Reported (now (out .entry)) (now (out .exit)) r (report (job-of (now (stream .entry)))) ⌝ }
 {
     let object = object_of(stream);
@@ -333,7 +333,7 @@ pub fn write_report(
         stands,
         by,
         count,
-        reach,
+        reach.0,
     );
     left_of(out, at, stream, object, next, mark, head, top, count)
 }

@@ -58,7 +58,7 @@ pub struct Finish {
     pub head: u16,
     pub tail: u16,
     pub top: u16,
-    pub reach: u16,
+    pub reach: Step,
 }
 
 // The place of process p before the operation that comes after operation o.
@@ -166,7 +166,7 @@ pub fn run_all(
     requires { ⌜ Room (now next) (now mark) (now first) (now last) (now start) (now link) (now taken) (now stands) (now by) ⌝ }
     requires { ⌜ AllBlank (now next) (now mark) (now first) (now last) (now start) (now link) (now taken) (now stands) (now by) ⌝ }
     ensures { λ r. ⌜ Ran (job-of (now (stream .entry))) steps (r .head) (r .tail) (r .top) (now (next .exit)) (now (mark .exit)) (now (first .exit)) (now (last .exit)) (now (start .exit)) (now (link .exit)) (now (taken .exit)) (now (stands .exit)) (now (by .exit)) ⌝ }
-    ensures { λ r. ⌜ IdleBehind (job-of (now (stream .entry))) (r .reach) steps ⌝ }
+    ensures { λ r. ⌜ IdleBehind (job-of (now (stream .entry))) (r .reach .0) steps ⌝ }
 {
     let mut run = line_up(stream, object, count);
     let fresh = Object::fresh();
@@ -212,7 +212,7 @@ pub fn run_all(
                     head,
                     tail,
                     top,
-                    reach: k,
+                    reach: Step(k),
                 };
             }
             continue;
@@ -224,6 +224,6 @@ pub fn run_all(
         head,
         tail,
         top,
-        reach: k,
+        reach: Step(k),
     }
 }

@@ -6,6 +6,7 @@ use lib.ListN.{drop}
 use Rattle.job.specs.Refusals.{most-processes}
 use Rattle.run.specs.Promise.{all-rest}
 use Rattle.run.proofs.Places.{place-acts, place-rests, places-end}
+use native.Mathlib.Omega.{arith}
 use borrow.Author.Needs.{needs}
 use Rattle.run.proofs.all_rest.Statement.{statement}
 use Rattle.run.proofs.all_rest.Tie as tie
@@ -27,7 +28,7 @@ element-copy-out-place c = search needs
 
 returns : tie.Need-returns Inv-loop μ-loop
 unfolding most-processes
-returns c = place-acts _ _ (c .before .before .before .before .before .before .pre) _ (c .before .before .before .before .loop-test .taken) (c .if1 .taken) ∙ c .before .before .before .before .before .loop .inv .1
+returns c = place-acts _ _ (c .before .before .before .before .before .before .pre) _ (c .before .before .before .before .loop-test .taken) (omega (arith, c .if1 .taken)) ∙ c .before .before .before .before .before .loop .inv .1
 
 add-p : tie.Need-add-p Inv-loop μ-loop
 add-p c = search needs
