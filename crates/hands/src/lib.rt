@@ -7,9 +7,9 @@ ghost use Rattle.job.specs.Job.{«job-of»};
 ghost use Rattle.machine.specs.Table.{«first-row»};
 ghost use Rattle.machine.specs.Run.{before, «operation-after»};
 use job::Kind;
-use machine::Operation;
+use job::Operation;
+use job::Process;
 use machine::Place;
-use machine::Process;
 use machine::Row;
 
 // The row where an operation begins.

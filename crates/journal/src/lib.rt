@@ -6,9 +6,9 @@ ghost use Rattle.basics.specs.Maps.{at, upd};
 ghost use Rattle.basics.specs.Choice.{pick};
 ghost use Rattle.journal.specs.Cells.{cells, noted, earlier, Room};
 ghost use Rattle.journal.specs.Stored.{Entered};
+use job::Operation;
+use job::Step;
 use machine::Event;
-use machine::Operation;
-use machine::Step;
 
 // Stores a value in a cell.
 pub fn store(cell: &mut [u16], i: u16, v: u16)

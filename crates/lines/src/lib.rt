@@ -1,7 +1,7 @@
 // The lines of a report, each laid at a place of lent memory.
 use job::Kind;
-use machine::Operation;
-use machine::Step;
+use job::Operation;
+use job::Step;
 use memory::word_at;
 use text::put_bytes;
 use text::put_labelled;

@@ -1,5 +1,7 @@
 // The report of a finished run, from the arrays that it leaves.
 use job::Kind;
+use job::Operation;
+use job::Step;
 use job::operations;
 use lines::bound_takers;
 use lines::empty_line;
@@ -8,8 +10,6 @@ use lines::object_line;
 use lines::operation_line;
 use lines::put_line;
 use lines::take_line;
-use machine::Operation;
-use machine::Step;
 ghost use mathlib.Core.Path.{_≡_};
 ghost use Prim.Native.Nat.{_+_, _≤_, _<_};
 ghost use lib.ListN.{length};

@@ -12,7 +12,7 @@ use Rattle.job.specs.declared.Kind.{Kind}
 use Rattle.job.specs.Stream.{operations, scheduled}
 use Rattle.job.specs.Refusals.{most-operations, most-processes, most-steps}
 use Rattle.job.specs.Job.{Job, job-of}
-use Rattle.machine.specs.declared.Operation as Machine
+use Rattle.job.specs.declared.Operation as Machine
 use Rattle.machine.specs.declared.Place.{Place}
 use Rattle.machine.specs.Memory.{Memory, fresh-memory}
 use Rattle.machine.specs.Run.{ended, resting, registers, state-after, fresh-state, reached}

@@ -2,11 +2,11 @@
 use hands::begin;
 use hands::next_operation;
 use job::Kind;
+use job::Process;
+use job::Step;
 use journal::enter;
 use journal::enter_end;
 use machine::Place;
-use machine::Process;
-use machine::Step;
 use place::advanced;
 use step::Stepped;
 use step::step;
