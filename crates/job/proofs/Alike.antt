@@ -9,6 +9,7 @@ use Rattle.basics.specs.Choice.{less}
 use Rattle.basics.specs.Maps.{at}
 use Rattle.basics.specs.Words.{word}
 use Rattle.block.specs.Block.{payload-size}
+use Rattle.job.specs.Kind.{kind-of, is-missing}
 use Rattle.job.specs.Stream.{kind, processes, operations, schedule-length, record-at, process, action, value, scheduled, stream-length}
 use Rattle.job.specs.Refusals.{any, outside, most-processes, most-operations, most-steps, exact-count, bad-kind, bad-processes, bad-operations, bad-schedule-length, bad-record, bad-records, bad-entry, bad-schedule}
 use Rattle.job.proofs.Accepted.{Fine}
@@ -69,7 +70,7 @@ module _ {s t : List ℕ} (a : Alike s t) where
   unfolding bad-kind bad-processes bad-operations bad-schedule-length bad-records bad-schedule
   fine-alike f =
       record {
-        kind = ap (outside 1 2) (sym kind-alike) ∙ f .kind;
+        kind = ap (λ (n : ℕ). is-missing (kind-of n)) (sym kind-alike) ∙ f .kind;
         processes = ap (outside 1 most-processes) (sym processes-alike) ∙ f .processes;
         operations = ap (outside 1 most-operations) (sym operations-alike) ∙ f .operations;
         steps = ap (less most-steps) (sym schedule-length-alike) ∙ f .steps;

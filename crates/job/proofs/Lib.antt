@@ -1,5 +1,6 @@
 -- Laws of conditions and streams.
 pub mod Conditions
+pub mod KindNumbers
 pub mod Tests
 pub mod Blocks
 pub mod Table

@@ -2,13 +2,13 @@
 use Prim.Native.Nat.{ℕ}
 use mathlib.Core.Bool.{Bool}
 use mathlib.Core.List.{List}
-use Rattle.basics.specs.Choice.{pick, same}
+use Rattle.basics.specs.Choice.{same}
 use Rattle.job.specs.declared.Kind.{Kind}
-use Rattle.job.specs.declared.Kind.the-variants.{Queue, Stack}
+use Rattle.job.specs.Kind.{kind-of, kind-found}
 use Rattle.job.specs.Stream.{kind, operations, schedule-length, process, action, value, scheduled}
 
 pub record Job : Type 0 where
-  -- "kind (1 queue, 2 stack)"
+  -- the kind whose number the stream has
   pub object : Kind
   -- the number of operations, N; they are 1 to N
   pub count : ℕ
@@ -27,7 +27,7 @@ pub record Job : Type 0 where
 unfoldable pub job-of : List ℕ → Job
 job-of s =
     record {
-      object = pick (same (kind s) 1) Queue Stack;
+      object = kind-found (kind-of (kind s));
       count = operations s;
       owner = process s;
       is-put = λ o. same (action s o) 1;

@@ -1,5 +1,6 @@
 -- Job files and the job in them, after document 01, "Job files" and "Where a job is turned back".
 pub mod Stream
+pub mod Kind
 pub mod Refusals
 pub mod File
 pub mod Calls

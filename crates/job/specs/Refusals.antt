@@ -7,6 +7,7 @@ use lib.ListN.{length}
 use Rattle.basics.specs.Choice.{pick, same, less}
 use Rattle.basics.specs.Maps.{at}
 use Rattle.block.specs.Block.{payload-size}
+use Rattle.job.specs.Kind.{kind-of, is-missing}
 use Rattle.job.specs.Stream.{kind, processes, operations, schedule-length, process, action, value, scheduled, stream-length}
 
 -- the limits of a job: P 8, N 256, S 16,384
@@ -35,9 +36,9 @@ any f start (suc count) = f start || any f (suc start) count
 unfoldable pub outside : ℕ → ℕ → ℕ → Bool
 outside low high n = less n low || less high n
 
--- number 5: kind out of range
+-- number 5: kind out of range, the number of no kind
 unfoldable pub bad-kind : List ℕ → Bool
-bad-kind s = outside 1 2 (kind s)
+bad-kind s = is-missing (kind-of (kind s))
 
 -- number 6: P out of range
 unfoldable pub bad-processes : List ℕ → Bool

@@ -4,6 +4,8 @@ use memory::word_at;
 ghost use mathlib.Core.Path.{_≡_};
 ghost use Prim.Native.Nat.{_+_, _≤_, _<_};
 ghost use lib.ListN.{length};
+ghost use Rattle.job.specs.Kind.{kind-of};
+ghost use Rattle.job.specs.Job.{job-of};
 ghost use Rattle.job.specs.Stream.{operations, schedule-length, stream-length, record-at};
 ghost use Rattle.job.specs.Refusals.{first-met, outside, exact-count, bad-record, bad-records, bad-schedule, bad-padding, header-conditions, list-conditions};
 
@@ -16,10 +18,16 @@ pub struct Step(pub u16);
 // A process's number; processes count from 0.
 pub struct Process(pub u8);
 
-// Document 01: "kind (1 queue, 2 stack)".
+// The objects of a job.
 pub enum Kind {
     Queue,
     Stack,
+}
+
+// What is found under a number: the kind that has it, or that none has.
+pub enum Lookup {
+    Found(Kind),
+    Missing,
 }
 
 // What a call answers: a number of document 01's table, 0 where it is accepted, and a length.
@@ -47,6 +55,28 @@ impl Reply {
         ensures { λ r. ⌜ (r .number ≡ number) × (r .length ≡ 0) ⌝ }
     {
         Reply { number, length: 0 }
+    }
+}
+
+// Document 01: "kind (1 queue, 2 stack)".
+fn kind_of(number: u8) -> Lookup
+    ensures { λ r. ⌜ r ≡ kind-of number ⌝ }
+{
+    match number {
+        1 => Lookup::Found(Kind::Queue),
+        2 => Lookup::Found(Kind::Stack),
+        _ => Lookup::Missing,
+    }
+}
+
+// The object. A stream of no kind is refused; here it is read as a queue's.
+pub fn object_of(s: &[u8]) -> Kind
+    requires { ⌜ 6 ≤ length (now s) ⌝ }
+    ensures { λ r. ⌜ r ≡ job-of (now (s .entry)) .object ⌝ }
+{
+    match kind_of(s[0]) {
+        Lookup::Found(kind) => kind,
+        Lookup::Missing => Kind::Queue,
     }
 }
 
@@ -96,9 +126,9 @@ pub fn header(s: &[u8]) -> u8
     requires { ⌜ 6 ≤ length (now s) ⌝ }
     ensures { λ r. ⌜ r ≡ first-met (header-conditions (now (s .entry))) ⌝ }
 {
-    if outside(1, 2, s[0] as u16) {
+    let Lookup::Found(_) = kind_of(s[0]) else {
         return 5;
-    }
+    };
     if outside(1, Reply::MOST_PROCESSES, s[1] as u16) {
         return 6;
     }

@@ -12,11 +12,12 @@ use Rattle.job.specs.Job.{Job}
 use Rattle.machine.specs.Multiplicity.{Line}
 use Rattle.machine.specs.Multiplicity.Line.{put, takes, empty}
 use Rattle.machine.specs.Journal.{Answer, last, answer, start, link, join, taken}
-use Rattle.machine.specs.Effects.{takers, takes-at, effect, is-stack, took-effect, Precedes, Overlap}
+use Rattle.machine.specs.Effects.{takers, latest-start, takes-at, effect, is-stack, took-effect, Precedes, Overlap}
 use Rattle.machine.specs.Effects.Effect.{none, stands}
 use Rattle.machine.specs.Record.{Recorded, the-record}
-use Rattle.machine.specs.Explained.{members, times, Says, Answered, InEffect, Operation, Explained}
-use Rattle.machine.proofs.Life.{deeds, Going}
+use Rattle.machine.specs.Explained.{members, times, Says, OpenLine, Answered, InEffect, Operation, Explained}
+use Rattle.machine.specs.Explained.OpenLine.{its-put, its-takes}
+use Rattle.machine.proofs.Life.{deeds, Going, linked-is-put, joined-is-take}
 use Rattle.machine.proofs.Standing.{Standing, standing}
 use Rattle.machine.proofs.Standing.Standing.{going, has-linked, is-done, has-joined, has-item, is-empty}
 use Rattle.machine.proofs.Lines.{Effected, effected, effect-of-put, effect-of-taker, effect-of-empty, taker-in}
@@ -70,13 +71,13 @@ module _ (j : Job) (k : ℕ) (laws : Laws j k) where
         to-last = w .to-last ended;
       }
 
-  in-effect-by : (o : ℕ) → Operation j o → (s : ℕ) (line : Line) → effect j k o ≡ stands s line → InEffect j k o
-  in-effect-by o op s line e =
+  in-effect-by : (o : ℕ) → Operation j o → (s : ℕ) (line : Line) → effect j k o ≡ stands s line → OpenLine j k o (record { step = s; line = line }) → InEffect j k o
+  in-effect-by o op s line e its-line =
       let w : Own j k o s line = own j k laws o op s line e in
       record {
         place = record { step = s; line = line };
         recorded = recorded j k s line (w .from-one) (w .to-end) (w .of-maker);
-        its-line = w .its-line;
+        its-line = its-line;
         once = with-effect j k o s line e w;
         begun = w .begun;
         from-first = w .from-first;
@@ -100,11 +101,11 @@ module _ (j : Job) (k : ℕ) (laws : Laws j k) where
 
   -- an unanswered operation: its effect is its link, or the line of the item that it joined, or nothing
   data Unanswered (o : ℕ) : Type 0 where
-    effective : (s : ℕ) (line : Line) → effect j k o ≡ stands s line → took-effect j k o ≡ true → Unanswered o
+    effective : (s : ℕ) (line : Line) → effect j k o ≡ stands s line → OpenLine j k o (record { step = s; line = line }) → took-effect j k o ≡ true → Unanswered o
     ineffective : effect j k o ≡ none → took-effect j k o ≡ false → Unanswered o
 
   unanswered : (o : ℕ) → Operation j o → last j k o ≡ 0 → Unanswered o
-  unfolding deeds
+  unfolding deeds takes-at
   unanswered o op ongoing = go (standing j k o op)
     where
       nothing : Going (deeds j k o) → Effected j k o → Unanswered o
@@ -115,9 +116,12 @@ module _ (j : Job) (k : ℕ) (laws : Laws j k) where
 
       go : Standing (j .object) (deeds j k o) → Unanswered o
       go (going g) = nothing g (effected j k o)
-      go (has-linked l e) = effective (link j k o) (put o) (effect-of-put j k o (l .linked)) (linked-took-effect j k o (l .linked))
+      go (has-linked l e) = effective (link j k o) (put o) (effect-of-put j k o (l .linked)) (its-put (linked-is-put j k o op (l .linked)) (l .linked)) (linked-took-effect j k o (l .linked))
       go (is-done l e) = absurd (e .has-ended ongoing)
-      go (has-joined q item h e) = effective (takes-at (j .object) j k (taken j k o)) (takes (taken j k o) (takers j k (taken j k o))) (effect-of-taker j k o op (λ z. h .some-item (sym (h .took) ∙ z))) (joined-took-effect j k o q (h .joined))
+      go (has-joined q item h e) =
+          let some : taken j k o ≢ 0 = λ z. h .some-item (sym (h .took) ∙ z) in
+          let at-round : effect j k o ≡ stands (latest-start j k (taken j k o)) (takes (taken j k o) (takers j k (taken j k o))) = effect-of-taker j k o op some ∙ ap (λ object. stands (takes-at object j k (taken j k o)) (takes (taken j k o) (takers j k (taken j k o)))) q in
+          effective (latest-start j k (taken j k o)) (takes (taken j k o) (takers j k (taken j k o))) at-round (its-takes (joined-is-take j k o op (h .joined)) q some (taker-in j k o (taken j k o) op refl)) (joined-took-effect j k o q (h .joined))
       go (has-item item h e) = absurd (e .has-ended ongoing)
       go (is-empty h e) = absurd (e .has-ended ongoing)
 
@@ -125,14 +129,14 @@ module _ (j : Job) (k : ℕ) (laws : Laws j k) where
   takes-effect o op ongoing t = go (unanswered o op ongoing)
     where
       go : Unanswered o → InEffect j k o
-      go (effective s line e h) = in-effect-by o op s line e
+      go (effective s line e its-line h) = in-effect-by o op s line e its-line
       go (ineffective e h) = absurd (true≢false (sym t ∙ h))
 
   takes-no-effect : (o : ℕ) → Operation j o → last j k o ≡ 0 → took-effect j k o ≡ false → times o (the-record j k) ≡ 0
   takes-no-effect o op ongoing t = go (unanswered o op ongoing)
     where
       go : Unanswered o → times o (the-record j k) ≡ 0
-      go (effective s line e h) = absurd (true≢false (sym h ∙ t))
+      go (effective s line e its-line h) = absurd (true≢false (sym h ∙ t))
       go (ineffective e h) = without-effect j k o e
 
   -- one that ended before the other began stands in an earlier line

@@ -1,17 +1,17 @@
 -- What holds of an operation in any run, on either object: on whose rows it is, and by its row what it has done so far. Assumes nothing.
 pub mod Rows
 pub mod Progress
-use mathlib.Core.Path.{_≡_, sym, ap, subst, subst₂, _∙_}
+use mathlib.Core.Path.{_≡_, refl, sym, ap, subst, subst₂, _∙_}
 use mathlib.Core.Logic.{_≢_, _⊎_, inl, inr}
 use Prim.Native.Nat.{ℕ, zero, suc, _≤_, _<_}
-use mathlib.Core.Bool.{true, not, true≢false, and-eq-true-iff}
+use mathlib.Core.Bool.{true, false, not, true≢false, and-eq-true-iff}
 use native.Mathlib.Omega.{arith}
 use Rattle.basics.specs.Choice.{same}
 use Rattle.basics.proofs.Choice.{same-equal, equal-same, compare}
 use Rattle.job.specs.Job.{Job}
 use Rattle.machine.specs.Journal.{is-linked, item-of, note, made, links, joins, ends, first, last, link, join}
 use Rattle.machine.specs.Explained.{Operation}
-use Rattle.machine.proofs.Searches.{earliest-least, earliest-found-by, earliest-once}
+use Rattle.machine.proofs.Searches.{earliest-meets, earliest-least, earliest-found-by, earliest-once}
 use Rattle.machine.proofs.Operations.{initial, actor, local, Idles, Acts, step-made, each-step}
 use Rattle.machine.proofs.Operations.Hands.{local-zero, local-other}
 use Rattle.machine.proofs.Turn.{turned}
@@ -31,6 +31,16 @@ module _ (j : Job) where
       (subst (λ l. OfObject (j .object) (l .row)) (sym (local-zero j o)) (first-of-object (j .object) (j .is-put o)))
       (λ k other x. subst (λ l. OfObject (j .object) (l .row)) (sym (local-other j k o other)) x)
       (λ k acts x. turn-of-object (j .object) (turned j k o acts) x)
+      k
+
+  -- a put is on a row of a put, and a take on a row of a take
+  of-action : (k o : ℕ) → Operation j o → puts (local j k o .row) ≡ j .is-put o
+  unfolding initial
+  of-action k o op =
+      each-step j o (operation-some op) (λ k. puts (local j k o .row) ≡ j .is-put o)
+      (ap (λ l. puts (l .row)) (local-zero j o) ∙ first-puts (j .object) (j .is-put o))
+      (λ k other x. ap (λ l. puts (l .row)) (local-other j k o other) ∙ x)
+      (λ k acts x. turn-puts (turned j k o acts) ∙ x)
       k
 
   -- what it has done is what its row says
@@ -55,6 +65,29 @@ module _ (j : Job) where
       by-step : Idles j k ⊎ ((q : ℕ) × Acts j k q) → Acts j k o
       by-step (inl i) = absurd (some (sym (same-equal m) ∙ i .nobody))
       by-step (inr a) = subst (Acts j k) (sym (a .1 .actor-is) ∙ same-equal m) (a .1)
+
+  -- who links is a put, and who joins is a take
+  linker-puts : (s o : ℕ) → Operation j o → links j o s ≡ true → s ≢ 0 → j .is-put o ≡ true
+  unfolding links
+  linker-puts zero o op l some = absurd (some refl)
+  linker-puts (suc s) o op l some =
+      let parts : (made j o (suc s) ≡ true) × (is-linked (note j (suc s) .event) ≡ true) = and-eq-true-iff (made j o (suc s)) (is-linked (note j (suc s) .event)) .0 l in
+      sym (of-action s o op) ∙ link-puts (note j (suc s) .event) (parts .1) (turned j s o (made-acts s o (operation-some op) (parts .0)))
+
+  joiner-takes : (s o : ℕ) → Operation j o → joins j o s ≡ true → s ≢ 0 → j .is-put o ≡ false
+  unfolding joins
+  joiner-takes zero o op l some = absurd (some refl)
+  joiner-takes (suc s) o op l some =
+      let parts : (made j o (suc s) ≡ true) × (not (same (item-of (note j (suc s) .event)) 0) ≡ true) = and-eq-true-iff (made j o (suc s)) (not (same (item-of (note j (suc s) .event)) 0)) .0 l in
+      sym (of-action s o op) ∙ join-takes (note j (suc s) .event) (λ z. true≢false (sym (parts .1) ∙ ap not (equal-same z))) (turned j s o (made-acts s o (operation-some op) (parts .0)))
+
+  pub linked-is-put : (k o : ℕ) → Operation j o → link j k o ≢ 0 → j .is-put o ≡ true
+  unfolding link
+  linked-is-put k o op some = linker-puts (link j k o) o op (earliest-meets (links j o) k some) some
+
+  pub joined-is-take : (k o : ℕ) → Operation j o → join j k o ≢ 0 → j .is-put o ≡ false
+  unfolding join
+  joined-is-take k o op some = joiner-takes (join j k o) o op (earliest-meets (joins j o) k some) some
 
   acts-not-over : (k o : ℕ) → Acts j k o → last j k o ≡ 0
   unfolding deeds

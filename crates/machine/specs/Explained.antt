@@ -9,11 +9,12 @@ use mathlib.Core.List.{List, [], _∷_, List·Memᴰ}
 use mathlib.Core.Option.{some}
 use lib.ListN.{length}
 use Rattle.basics.specs.Choice.{pick, same}
+use Rattle.job.specs.declared.Kind.the-variants.{Stack}
 use Rattle.job.specs.Job.{Job}
 use Rattle.machine.specs.Multiplicity.{Line, play}
 use Rattle.machine.specs.Multiplicity.Line.{put, takes, empty}
-use Rattle.machine.specs.Journal.{Answer, first, last, answer}
-use Rattle.machine.specs.Effects.{took-effect, Precedes, Overlap}
+use Rattle.machine.specs.Journal.{Answer, first, last, answer, link, taken}
+use Rattle.machine.specs.Effects.{takers, latest-start, took-effect, Precedes, Overlap}
 use Rattle.machine.specs.Record.{Recorded, the-record, lines-of}
 use Rattle.machine.specs.Left.{left}
 
@@ -55,11 +56,17 @@ pub record Answered (j : Job) (k o : ℕ) : Type 0 where
   pub from-first : first j k o ≤ place .step
   pub to-last : place .step ≤ last j k o
 
+-- "One that has not ended took effect exactly if it is a put whose changing step above was made, or a stack take that is a member above":
+-- it is in the record as the put of its item, at that step, or among the takes of the item on which it ran R3, where their line stands
+pub data OpenLine (j : Job) (k o : ℕ) : Recorded → Type 0 where
+  its-put : j .is-put o ≡ true → link j k o ≢ 0 → OpenLine j k o (record { step = link j k o; line = put o })
+  its-takes : j .is-put o ≡ false → j .object ≡ Stack → taken j k o ≢ 0 → List·Memᴰ o (takers j k (taken j k o)) → OpenLine j k o (record { step = latest-start j k (taken j k o); line = takes (taken j k o) (takers j k (taken j k o)) })
+
 -- "An unanswered one is in it once exactly when it took effect […] and never before its first step."
 pub record InEffect (j : Job) (k o : ℕ) : Type 0 where
   pub place : Recorded
   pub recorded : List·Memᴰ place (the-record j k)
-  pub its-line : List·Memᴰ o (members (place .line))
+  pub its-line : OpenLine j k o place
   pub once : times o (the-record j k) ≡ 1
   pub begun : first j k o ≢ 0
   pub from-first : first j k o ≤ place .step

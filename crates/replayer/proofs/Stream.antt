@@ -8,11 +8,11 @@ use mathlib.Core.Bool.{Bool, true, false, not, true≢false}
 use mathlib.Core.List.{List, [], _∷_, _++_}
 use lib.ListN.{length, getD, take, replicate, length-append, length-replicate, length-take, List·getD-eq-default}
 use lib.Seq.{getD-take}
-use Rattle.basics.specs.Choice.{pick, same, less}
+use Rattle.basics.specs.Choice.{same, less}
 use Rattle.basics.specs.Maps.{at}
 use Rattle.basics.specs.Words.{word}
 use Rattle.basics.proofs.Choice.{split, compare, same-equal, less-lt, less-le}
-use Rattle.job.specs.declared.Kind.the-variants.{Queue, Stack}
+use Rattle.job.specs.Kind.{kind-of, kind-found}
 use Rattle.job.specs.Stream.{kind, processes, operations, schedule-length, record-at, process, action, value, scheduled, stream-length}
 use Rattle.job.specs.Refusals.{exact-count, any, outside, most-operations, most-processes, most-steps, bad-padding, bad-operations, bad-processes, bad-schedule-length, bad-schedule, bad-entry}
 use Rattle.block.specs.Block.{payload-size}
@@ -66,7 +66,7 @@ unfolding job-of kind operations process action value schedule-length scheduled 
 same-job s t e =
     λ i.
     record {
-      object = pick (same (e i 0) 1) Queue Stack;
+      object = kind-found (kind-of (e i 0));
       count = 256 * e i 2 + e i 3;
       owner = λ o. e i (2 + 4 * o);
       is-put = λ o. same (e i (2 + 4 * o + 1)) 1;

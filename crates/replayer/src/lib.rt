@@ -37,7 +37,7 @@ fn replay_in(
     requires { ⌜ AllBlank (now next) (now mark) (now first) (now last) (now start) (now link) (now taken) (now stands) (now by) ⌝ }
     ensures { λ r. ⌜ Reported (now (out .entry)) (now (out .exit)) r (Report.report (job-of (now (stream .entry)))) ⌝ }
 {
-    let object = report::object_of(stream);
+    let object = job::object_of(stream);
     let count = job::operations(stream);
     let steps = job::schedule_length(stream);
     let end = run::run_all(

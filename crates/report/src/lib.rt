@@ -2,6 +2,7 @@
 use job::Kind;
 use job::Operation;
 use job::Step;
+use job::object_of;
 use job::operations;
 use lines::bound_takers;
 use lines::empty_line;
@@ -29,18 +30,6 @@ ghost use Rattle.report.specs.Holds.{MadeBy, Column, Holds, HoldsAnswers
 
 // The items whose takers are looked for between bounds: as many as a job has. Of any other, all operations are looked at.
 const ITEMS: usize = 257;
-
-// The object of a job.
-pub fn object_of(stream: &[u8]) -> Kind
-    requires { ⌜ stream-length (now stream) ≤ length (now stream) ⌝ }
-    ensures { λ r. ⌜ r ≡ job-of (now (stream .entry)) .object ⌝ }
-{
-    if stream[0] == 1 {
-        Kind::Queue
-    } else {
-        Kind::Stack
-    }
-}
 
 // The line of an operation, by the arrays.
 fn line_of(

@@ -5,7 +5,7 @@ use Rattle.replayer.proofs.replay_in.Statement.{statement}
 use Rattle.replayer.proofs.replay_in.Tie as tie
 
 object-of-requires : tie.Need-object-of-requires
-object-of-requires c κs = stream-there (c .before .before .before .before .before .before .before .before .before .before .before .pre .0 .0)
+object-of-requires c κs = header-there (c .before .before .before .before .before .before .before .before .before .before .before .pre .0 .0)
 
 operations-requires : tie.Need-operations-requires
 operations-requires c κs = header-there (c .before .before .before .before .before .before .before .before .before .before .before .before .pre .0 .0)

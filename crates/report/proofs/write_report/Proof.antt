@@ -14,7 +14,8 @@ use Rattle.report.proofs.write_report.Statement.{statement}
 use Rattle.report.proofs.write_report.Tie as tie
 
 object-of-requires : tie.Need-object-of-requires
-object-of-requires c κs = search needs
+unfolding stream-length
+object-of-requires c κs = omega (arith, c .before .before .before .before .before .before .before .before .before .before .before .pre .1 .1 .0)
 
 operations-requires : tie.Need-operations-requires
 unfolding stream-length

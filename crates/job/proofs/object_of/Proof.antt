@@ -1,0 +1,40 @@
+-- `job::object_of` meets its contract. Assumes nothing.
+use mathlib.Core.Path.{sym, ap, _∙_}
+use Rattle.basics.specs.Maps.{at}
+use Rattle.job.specs.Kind.{kind-found}
+use Rattle.job.specs.Stream.{kind}
+use Rattle.job.specs.Job.{job-of}
+use borrow.Author.Needs.{needs}
+use Rattle.job.proofs.object_of.Statement.{statement}
+use Rattle.job.proofs.object_of.Tie as tie
+
+shared-slice-read-kind-of : tie.Need-shared-slice-read-kind-of
+shared-slice-read-kind-of c = search needs
+
+kind-of-requires : tie.Need-kind-of-requires
+kind-of-requires c κs = search needs
+
+enum-known-kind : tie.Need-enum-known-kind
+enum-known-kind c = search needs
+
+enum-told : tie.Need-enum-told
+enum-told c = search needs
+
+returns : tie.Need-returns
+unfolding job-of kind-found kind at
+returns c = ap kind-found (sym (c .before .kind .given .1) ∙ c .before .before .before .kind-of .ensures)
+
+returns-2 : tie.Need-returns-2
+unfolding job-of kind-found kind at
+returns-2 c = ap kind-found (sym (c .enum-told .given .1) ∙ c .before .before .kind-of .ensures)
+
+pub object-of-spec : {M : Type 1} → statement M
+object-of-spec =
+    tie.close
+    (tie.spec
+    shared-slice-read-kind-of
+    kind-of-requires
+    enum-known-kind
+    enum-told
+    returns
+    returns-2)
