@@ -6,3 +6,5 @@ pub mod File
 pub mod Calls
 pub mod Job
 pub mod RoundTrip
+pub mod Examples
+pub mod TurnedBack

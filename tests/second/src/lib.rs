@@ -1,5 +1,5 @@
 //! A second replayer, written from document 01 alone, and what is needed to compare the library with it.
-//! The replayer: job, file, machine, queue, stack, report, calls. The tests: generate, damage, check, library, compare, failure.
+//! The replayer: job, file, machine, queue, stack, report, calls. The tests: generate, damage, check, library, compare, failure, proved.
 
 pub mod calls;
 pub mod check;
@@ -12,6 +12,7 @@ pub mod groups;
 pub mod job;
 pub mod library;
 pub mod machine;
+pub mod proved;
 pub mod queue;
 pub mod random;
 pub mod report;

@@ -1,7 +1,7 @@
 //! The gate run. Its last line is 'N passed, M failed', counted in test groups.
 
 use second::generate::STYLES;
-use second::groups::{self, Bench, bytes, every, faults, jobs, lengths, limits, rooms, traces};
+use second::groups::{self, Bench, bytes, every, faults, jobs, lengths, limits, outcomes, rooms, traces};
 use std::process::ExitCode;
 
 /// Jobs of each style, and the first seed.
@@ -11,6 +11,7 @@ const FIRST_SEED: u64 = 1;
 fn main() -> ExitCode {
     let mut bench = groups::Bench::new();
     bench.group("traces of the paper", traces::paper);
+    bench.group("traces that are proved, every outcome", outcomes::proved);
     bench.group("sample files", traces::samples);
     bench.group("limits of the paper", limits::paper);
     for style in STYLES {

@@ -33,7 +33,7 @@ pub fn samples(bench: &mut Bench) -> Result<usize, String> {
     Ok(samples.len())
 }
 
-fn report_is(bench: &mut Bench, name: &str, file: &[u8], report: &[u8]) -> Result<(), String> {
+pub(super) fn report_is(bench: &mut Bench, name: &str, file: &[u8], report: &[u8]) -> Result<(), String> {
     let answer = bench.compare.replay(file, ENOUGH)?;
     let given = bench.compare.output(answer);
     if given == report { Ok(()) } else { Err(format!("{name}: the report is\n{}", String::from_utf8_lossy(given))) }
