@@ -1,8 +1,8 @@
 //! Sample jobs: the traces of document 01 with their texts, written out by hand, and a full-size hour of a flood.
 
+pub mod flood;
+
 use crate::generate::{Draft, put, take};
-use crate::job::OPERATIONS;
-use crate::random::Random;
 
 /// A job and the report that document 01 gives for it.
 pub struct Trace {
@@ -130,22 +130,5 @@ pub fn traces() -> Vec<Trace> {
 
 /// The sample jobs by the names of their files.
 pub fn all() -> [(&'static str, Draft); 3] {
-    [("listing", listing().draft), ("fifth-trace", fifth().draft), ("flood-hour", flood_hour())]
-}
-
-/// An hour of a flood: five gauges put rising stages, three uplinks take, at uneven speeds; some operations stay open or waiting.
-pub fn flood_hour() -> Draft {
-    let mut random = Random::new(1936);
-    let record = |i: usize| {
-        if random.below(8) < 5 {
-            let gauge = random.below(5);
-            put(gauge as u8, (1_150 + gauge * 310 + i * 11 + random.below(40)) as u16)
-        } else {
-            take(random.between(5, 7) as u8)
-        }
-    };
-    let records = (0..OPERATIONS).map(record).collect();
-    let urn = [0, 0, 0, 0, 0, 1, 1, 1, 2, 2, 2, 2, 3, 4, 5, 5, 6, 6, 7];
-    let schedule = (0..3_600).map(|_| *random.pick(&urn)).collect();
-    Draft { kind: 1, processes: 8, records, schedule }
+    [("listing", listing().draft), ("fifth-trace", fifth().draft), ("flood-hour", flood::hour())]
 }
