@@ -14,15 +14,11 @@ fn main() -> ExitCode {
     let began = Instant::now();
     let mut bench = Bench::new();
     let failure = (0..count).find_map(|i| jobs::seed(&mut bench, first.wrapping_add(i)).err().map(|why| (i, why)));
-    println!("{} calls on each side in {:.1} s; jobs:", bench.compare.calls, began.elapsed().as_secs_f64());
-    match failure {
-        None => {
-            println!("{count} passed, 0 failed");
-            ExitCode::SUCCESS
-        }
-        Some((passed, why)) => {
-            println!("{why}\n{passed} passed, 1 failed");
-            ExitCode::FAILURE
-        }
+    if let Some((_, why)) = &failure {
+        println!("{why}");
     }
+    let (passed, failed) = failure.map_or((count, 0), |(before, _)| (before, 1));
+    println!("{} calls on each side in {:.1} s; jobs:", bench.compare.calls, began.elapsed().as_secs_f64());
+    println!("{passed} passed, {failed} failed");
+    if failed == 0 { ExitCode::SUCCESS } else { ExitCode::FAILURE }
 }
