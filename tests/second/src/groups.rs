@@ -32,7 +32,8 @@ impl Bench {
     /// Runs one group and prints what it tried, or what failed.
     pub fn group(&mut self, name: &str, test: impl FnOnce(&mut Bench) -> Result<usize, String>) {
         let began = Instant::now();
-        let result = guarded(|| test(self));
+        let tried = |count| if count > 0 { Ok(count) } else { Err("nothing was tried".to_string()) };
+        let result = guarded(|| test(self).and_then(tried));
         let seconds = began.elapsed().as_secs_f64();
         match result {
             Ok(count) => {

@@ -1,8 +1,8 @@
-//! Sample jobs: the traces of document 01 with their texts, written out by hand, and a full-size hour of a flood.
+//! Sample jobs: the traces of document 01 with their texts, written out by hand, the jobs that docs/ shows, and a full-size hour of a flood.
+
+pub mod flood;
 
 use crate::generate::{Draft, put, take};
-use crate::job::OPERATIONS;
-use crate::random::Random;
 
 /// A job and the report that document 01 gives for it.
 pub struct Trace {
@@ -130,7 +130,7 @@ pub fn traces() -> Vec<Trace> {
 
 /// The sample jobs by the names of their files.
 pub fn all() -> Vec<(&'static str, Draft)> {
-    let mut samples = vec![("listing", listing().draft), ("fifth-trace", fifth().draft), ("flood-hour", flood_hour())];
+    let mut samples = vec![("listing", listing().draft), ("fifth-trace", fifth().draft), ("flood-hour", flood::hour())];
     samples.extend(alone());
     samples.extend(met());
     samples.push(("smallest", smallest()));
@@ -165,21 +165,4 @@ fn met() -> [(&'static str, Draft); 3] {
 /// The job whose file docs/FORMAT.md shows byte by byte: a put of 0 mm by process 1, and an idle step of process 0.
 fn smallest() -> Draft {
     queue(2, &[put(1, 0)], &[1, 0, 1, 1, 1])
-}
-
-/// An hour of a flood: five gauges put rising stages, three uplinks take, at uneven speeds; some operations stay open or waiting.
-pub fn flood_hour() -> Draft {
-    let mut random = Random::new(1936);
-    let record = |i: usize| {
-        if random.below(8) < 5 {
-            let gauge = random.below(5);
-            put(gauge as u8, (1_150 + gauge * 310 + i * 11 + random.below(40)) as u16)
-        } else {
-            take(random.between(5, 7) as u8)
-        }
-    };
-    let records = (0..OPERATIONS).map(record).collect();
-    let urn = [0, 0, 0, 0, 0, 1, 1, 1, 2, 2, 2, 2, 3, 4, 5, 5, 6, 6, 7];
-    let schedule = (0..3_600).map(|_| *random.pick(&urn)).collect();
-    Draft { kind: 1, processes: 8, records, schedule }
 }

@@ -1,74 +1,71 @@
-//! Both sides on the same call, in turns in one run: best and median time of many rounds.
+//! Both sides on the same calls, in turns in one run, two ways: one input repeated, and all inputs in rotation. A processor learns
+//! the branches of a call that is repeated, so only the rotation tells of inputs that it has not just seen.
+
+pub mod shapes;
 
 use crate::calls::{Calls, REPORT, SECOND};
-use crate::file::{FILE_LIMIT, WORK, sealed};
-use crate::generate::Draft;
+use crate::file::{FILE_LIMIT, WORK};
 use crate::library::LIBRARY;
 use std::hint::black_box;
 use std::time::Instant;
 
-/// Nanoseconds of one side.
-#[derive(Clone, Copy)]
-pub struct Time {
-    pub best: f64,
-    pub median: f64,
-}
-
-impl Time {
-    fn of(mut rounds: Vec<f64>) -> Time {
-        rounds.sort_by(f64::total_cmp);
-        Time { best: rounds[0], median: rounds[rounds.len() / 2] }
-    }
-}
-
+/// Nanoseconds of a call on each side, by its best round.
 pub struct Pair {
-    pub second: Time,
-    pub library: Time,
+    pub second: f64,
+    pub library: f64,
 }
 
 impl Pair {
-    /// The library's time for each unit of the second replayer's, by the best rounds.
     pub fn ratio(&self) -> f64 {
-        self.library.best / self.second.best
+        self.library / self.second
     }
 }
 
-/// The memories of a side. They are not cleared between rounds.
+/// The same call measured both ways.
+pub struct Measured {
+    pub repeated: Pair,
+    pub rotated: Pair,
+}
+
+/// The memories of a side. They are not cleared between calls.
 struct Memories {
     work: Vec<u8>,
     out: Vec<u8>,
 }
 
-fn time(rounds: usize, call: impl Fn(&Calls, &mut Memories) -> u64) -> Pair {
+/// A round is one call for each input, on one side, then on the other; repeated, it is as many calls for the first input.
+fn measured(inputs: &[Vec<u8>], rounds: usize, call: impl Fn(&Calls, &[u8], &mut Memories) -> u64) -> Measured {
+    let repeated = vec![&inputs[0]; inputs.len()];
+    let rotated: Vec<&Vec<u8>> = inputs.iter().collect();
+    Measured { repeated: best(&repeated, rounds, &call), rotated: best(&rotated, rounds, &call) }
+}
+
+fn best(inputs: &[&Vec<u8>], rounds: usize, call: &impl Fn(&Calls, &[u8], &mut Memories) -> u64) -> Pair {
     let sides = [SECOND, LIBRARY];
     let mut memories = sides.map(|_| Memories { work: vec![0; WORK], out: vec![0; REPORT.max(FILE_LIMIT)] });
-    let mut times = [vec![], vec![]];
-    for round in 0..rounds + rounds / 10 {
+    let mut best = [f64::INFINITY; 2];
+    for _ in 0..rounds {
         for (side, calls) in sides.iter().enumerate() {
             let began = Instant::now();
-            black_box(call(black_box(calls), &mut memories[side]));
-            let nanoseconds = began.elapsed().as_nanos() as f64;
-            // the first rounds only warm up
-            if round >= rounds / 10 {
-                times[side].push(nanoseconds);
+            for input in inputs {
+                black_box(call(black_box(calls), input, &mut memories[side]));
             }
+            let nanoseconds = began.elapsed().as_nanos() as f64 / inputs.len() as f64;
+            best[side] = best[side].min(nanoseconds);
         }
     }
-    let [second, library] = times.map(Time::of);
+    let [second, library] = best;
     Pair { second, library }
 }
 
-pub fn replay(draft: &Draft, rounds: usize) -> Pair {
-    let file = sealed(&draft.stream());
-    time(rounds, |calls, memories| (calls.replay)(&file, &mut memories.work, &mut memories.out))
+pub fn replay(files: &[Vec<u8>], rounds: usize) -> Measured {
+    measured(files, rounds, |calls, file, memories| (calls.replay)(file, &mut memories.work, &mut memories.out))
 }
 
-pub fn read(draft: &Draft, rounds: usize) -> Pair {
-    let file = sealed(&draft.stream());
-    time(rounds, |calls, memories| (calls.read)(&file, &mut memories.work))
+pub fn read(files: &[Vec<u8>], rounds: usize) -> Measured {
+    measured(files, rounds, |calls, file, memories| (calls.read)(file, &mut memories.work))
 }
 
-pub fn write(draft: &Draft, rounds: usize) -> Pair {
-    let stream = draft.stream();
-    time(rounds, |calls, memories| (calls.write)(&stream, &mut memories.out))
+pub fn write(streams: &[Vec<u8>], rounds: usize) -> Measured {
+    measured(streams, rounds, |calls, stream, memories| (calls.write)(stream, &mut memories.out))
 }

@@ -71,7 +71,7 @@ pub fn alone(bench: &mut Bench) -> Result<usize, String> {
 
 /// A wrong sum and a wrong number in every two blocks of a file: the earlier block decides, and within a block the sum.
 pub fn block_by_block(bench: &mut Bench) -> Result<usize, String> {
-    let draft = samples::flood_hour();
+    let draft = samples::flood::hour();
     let blocks = draft.stream().len().div_ceil(PAYLOAD);
     for sum in 0..blocks {
         for number in 0..blocks {

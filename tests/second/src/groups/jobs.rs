@@ -54,14 +54,6 @@ pub fn of_style(bench: &mut Bench, style: Style, count: usize, first: u64) -> Re
     Ok(count)
 }
 
-/// `count` jobs with seeds from `first` up.
-pub fn in_a_row(bench: &mut Bench, count: usize, first: u64) -> Result<usize, String> {
-    for i in 0..count as u64 {
-        seed(bench, first.wrapping_add(i))?;
-    }
-    Ok(count)
-}
-
 /// The jobs so far went through every row both ways and met every case of the record.
 pub fn reached(bench: &mut Bench) -> Result<usize, String> {
     let Seen { rows, shared_lines, lines_of_eight, open_takers, open_puts, idle_steps } = &bench.seen;

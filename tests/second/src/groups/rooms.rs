@@ -20,7 +20,7 @@ pub fn all(bench: &mut Bench) -> Result<usize, String> {
     let mut count = 0;
     let draft = generate::job(9);
     let faults: Vec<_> = damage::fault(10, &draft, &mut random).into_iter().collect();
-    for file in [damage::file(&draft, &[]), damage::file(&draft, &faults), vec![], damage::file(&samples::flood_hour(), &[])] {
+    for file in [damage::file(&draft, &[]), damage::file(&draft, &faults), vec![], damage::file(&samples::flood::hour(), &[])] {
         for work in around(WORK) {
             number_is(work < WORK, bench.compare.read(&file, work)?.number)?;
             for report in around(REPORT) {
@@ -29,7 +29,7 @@ pub fn all(bench: &mut Bench) -> Result<usize, String> {
             }
         }
     }
-    for stream in [draft.stream(), vec![], vec![0; 6], samples::flood_hour().stream()] {
+    for stream in [draft.stream(), vec![], vec![0; 6], samples::flood::hour().stream()] {
         for out in around(FILE_LIMIT) {
             number_is(out < FILE_LIMIT, bench.compare.write(&stream, out)?.number)?;
             count += 1;

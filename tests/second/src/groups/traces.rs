@@ -2,7 +2,8 @@
 
 use super::Bench;
 use crate::compare::ENOUGH;
-use crate::file::sealed;
+use crate::file::{FILE_LIMIT, sealed};
+use crate::generate::Draft;
 use crate::samples;
 use std::fs;
 
@@ -16,7 +17,7 @@ pub fn paper(bench: &mut Bench) -> Result<usize, String> {
     Ok(traces.len())
 }
 
-/// The sample files of examples/, with the reports beside them.
+/// The sample files of examples/, with the reports beside them; one of them is of full size.
 pub fn samples(bench: &mut Bench) -> Result<usize, String> {
     let samples = samples::all();
     for (name, draft) in &samples {
@@ -30,7 +31,8 @@ pub fn samples(bench: &mut Bench) -> Result<usize, String> {
         bench.compare.job(&draft.stream())?;
         report_is(bench, name, &file, &read("txt")?)?;
     }
-    Ok(samples.len())
+    let full_size = |(_, draft): &(_, Draft)| sealed(&draft.stream()).len() == FILE_LIMIT;
+    if samples.iter().any(full_size) { Ok(samples.len()) } else { Err("no sample is of full size".to_string()) }
 }
 
 pub(super) fn report_is(bench: &mut Bench, name: &str, file: &[u8], report: &[u8]) -> Result<(), String> {
