@@ -1,20 +1,33 @@
-/* The bench's calls for C. Link target/staticlib/libbench.a, which `rt staticlib bench` writes.
+/* The bench's calls for C and C++. `rt staticlib bench` writes target/staticlib/libbench.a, for x86-64 Linux; of a C library it needs memset
+ * alone. README.md has the commands, examples/report.c is a whole program.
  *
- * A slice is passed as a pointer and a length; memories may not overlap. Every call ends for any bytes and any lengths, and gives
- * number * 2^32 + length. Number 0: accepted. A refusal has length 0:
+ * What a caller must know:
  *
- *    1  lent memory: report under 32,768 bytes, work under 17,710, or output under 17,920
- *    2  file length: 0, over 17,920, or not a multiple of 512; of a write: a stream under 6 bytes
- *    3  a block's sum differs
- *    4  a block's number is not its position
- *    5  kind out of range
- *    6  number of processes out of range
- *    7  number of operations out of range
- *    8  schedule length out of range
- *    9  not the exact number of blocks; of a write: not the exact length
- *   10  an operation's field out of range, or a take with a value
- *   11  a schedule entry that is no process of the job
- *   12  a padding byte that is not zero
+ * - A memory is a pointer and its length in bytes, at any address: no alignment is asked for. The pointer may be null where the length is 0.
+ * - The file and the stream are only read; calls at the same time may read the same one. Work, report and output are written: each of them
+ *   must lie apart from every other memory of the call, and nobody else may use it before the call returns. What they hold at first does not
+ *   matter.
+ * - A call allocates nothing, keeps nothing and has no globals. It is reentrant, and any number of threads may call at once.
+ * - A replay uses some 38 KB of stack below its caller, a read or a write less than 1 KB: measured. A thread whose whole stack is BENCH_STACK
+ *   bytes can make any call; that leaves it room for some 16 KB of its own, after what threads and dynamic linking take.
+ * - Every call ends, for any bytes and any lengths, and gives number * 2^32 + length, to be taken apart by BENCH_NUMBER and BENCH_LENGTH.
+ *   A refusal has length 0.
+ *
+ * What the number says:
+ *
+ *    0  The call was accepted.
+ *    1  A lent memory is too short: work under BENCH_WORK, report under BENCH_REPORT or output under BENCH_FILE bytes. Nothing was touched.
+ *    2  The file's length is 0, over BENCH_FILE or not a multiple of 512. Of a write: the stream is under 6 bytes long.
+ *    3  A block's sum differs: the block is damaged.
+ *    4  A block's number is not its position: blocks were lost or mixed up.
+ *    5  The kind is neither 1, a queue, nor 2, a stack.
+ *    6  The number of processes is not from 1 to 8.
+ *    7  The number of operations is not from 1 to 256.
+ *    8  The schedule is longer than 16,384 steps.
+ *    9  The file does not have exactly the blocks that its header asks for. Of a write: the stream does not have exactly that length.
+ *   10  An operation's process is none of the job's, its action is neither 1, a put, nor 2, a take, or it is a take with a value.
+ *   11  A schedule entry is no process of the job.
+ *   12  A byte behind the stream is not zero.
  */
 #ifndef BENCH_H
 #define BENCH_H
@@ -22,23 +35,30 @@
 #include <stddef.h>
 #include <stdint.h>
 
+#define BENCH_WORK 17710   /* the least length of work memory */
+#define BENCH_REPORT 32768 /* the least length of report memory */
+#define BENCH_FILE 17920   /* the least length of output memory, and the length of the longest file */
+#define BENCH_STACK 65536  /* stack enough for a thread that makes any of the calls */
+
+#define BENCH_NUMBER(answer) ((uint32_t)((uint64_t)(answer) >> 32))
+#define BENCH_LENGTH(answer) ((size_t)((uint64_t)(answer) & 0xffffffff))
+
 #ifdef __cplusplus
 extern "C" {
 #endif
 
 /* Replays the job in a file. Accepted: the report's length, the report in `report`, bytes past it unchanged. Refused: `report` is
- * unchanged. After every call but number 1 the first 17,710 work bytes are zero; after number 1 nothing is touched. Work bytes past
- * 17,710 never change. */
+ * unchanged. After every call but number 1 the first BENCH_WORK work bytes are zero. Work bytes past them never change. */
 uint64_t bench_replay(const uint8_t *file, size_t file_length,
                       uint8_t *work, size_t work_length,
                       uint8_t *report, size_t report_length);
 
-/* Reads a job file. Accepted: the stream's length, and the stream followed by zeros in the first 17,710 work bytes. Refused: those
- * bytes are zero; after number 1 nothing is touched. Work bytes past 17,710 never change. */
+/* Reads a job file. Accepted: the stream's length, and the stream followed by zeros in the first BENCH_WORK work bytes. Refused, but for
+ * number 1: those bytes are zero. Work bytes past them never change. */
 uint64_t bench_read(const uint8_t *file, size_t file_length,
                     uint8_t *work, size_t work_length);
 
-/* Writes the job file of a stream without padding. Done: the file's length, the file in `out`, bytes past it unchanged. Refused: `out`
+/* Writes the job file of a stream without padding. Accepted: the file's length, the file in `out`, bytes past it unchanged. Refused: `out`
  * is unchanged. */
 uint64_t bench_write(const uint8_t *stream, size_t stream_length,
                      uint8_t *out, size_t out_length);

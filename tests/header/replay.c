@@ -4,23 +4,21 @@
 
 #include "bench.h"
 
-enum { FILE_MOST = 17920, WORK_LEAST = 17710, REPORT_LEAST = 32768 };
-
-static uint8_t file[FILE_MOST + 1], work[WORK_LEAST], report[REPORT_LEAST], out[FILE_MOST];
+static uint8_t file[BENCH_FILE + 1], work[BENCH_WORK], report[BENCH_REPORT], out[BENCH_FILE];
 
 int main(void) {
     size_t n = fread(file, 1, sizeof file, stdin);
     uint64_t read = bench_read(file, n, work, sizeof work);
-    if (read >> 32 != 0) {
-        printf("refused %u\n", (unsigned)(read >> 32));
+    if (BENCH_NUMBER(read) != 0) {
+        printf("refused %u\n", (unsigned)BENCH_NUMBER(read));
         return 0;
     }
-    uint64_t written = bench_write(work, (size_t)(read & 0xffffffff), out, sizeof out);
+    uint64_t written = bench_write(work, BENCH_LENGTH(read), out, sizeof out);
     if (written != n || memcmp(file, out, n) != 0) {
         puts("the file is not the one that the writer makes");
         return 1;
     }
     uint64_t replayed = bench_replay(file, n, work, sizeof work, report, sizeof report);
-    fwrite(report, 1, (size_t)(replayed & 0xffffffff), stdout);
+    fwrite(report, 1, BENCH_LENGTH(replayed), stdout);
     return 0;
 }

@@ -1,5 +1,6 @@
 // The fourteen accesses of the step table, a function for each: what a row does to shared memory and to the registers of its
 // operation. Document 01: "A step is one read, one write or one compare-and-set of shared memory, with the private work after it."
+use job::Operation;
 use machine::Event;
 use machine::Outcome;
 ghost use mathlib.Core.Path.{_≡_};
@@ -122,24 +123,24 @@ pub fn read_next_of_t(mut c: Cells, next: &[u16]) -> Accessed
 }
 
 // "Q3 set t's next from none to the own node: changed, Q4; else Q1."
-pub fn link_own(own: u16, c: Cells, next: &mut [u16]) -> Accessed
+pub fn link_own(own: Operation, c: Cells, next: &mut [u16]) -> Accessed
     requires { ⌜ c .t < length (now next) ⌝ }
-    ensures { λ d. ⌜ ((mark : List ℕ) → Does Link own c (now (next .entry)) mark d (now (next .exit)) mark) ⌝ }
+    ensures { λ d. ⌜ ((mark : List ℕ) → Does Link (own .0) c (now (next .entry)) mark d (now (next .exit)) mark) ⌝ }
 {
     let t = c.t as usize;
     if next[t] == NONE {
-        next[t] = own;
+        next[t] = own.0;
         return answer(c, Outcome::Yes, Event::Linked);
     }
     answer(c, Outcome::No, Event::Quiet)
 }
 
 // "Q4 set Tail from t to the own node"
-pub fn tail_to_own(own: u16, mut c: Cells) -> Accessed
-    ensures { λ d. ⌜ Does-alone TailToOwn own c d ⌝ }
+pub fn tail_to_own(own: Operation, mut c: Cells) -> Accessed
+    ensures { λ d. ⌜ Does-alone TailToOwn (own .0) c d ⌝ }
 {
     let outcome = yes_if_same(c.tail, c.t);
-    c.tail = set_from_to(c.tail, c.t, own);
+    c.tail = set_from_to(c.tail, c.t, own.0);
     answer(c, outcome, Event::Quiet)
 }
 
@@ -194,13 +195,13 @@ pub fn read_mark(c: Cells, mark: &[u16]) -> Accessed
 }
 
 // "P3 set Top from t to the own node, whose next becomes t: changed, end, done; else P1."
-pub fn push(own: u16, mut c: Cells, next: &mut [u16]) -> Accessed
-    requires { ⌜ own < length (now next) ⌝ }
-    ensures { λ d. ⌜ ((mark : List ℕ) → Does Push own c (now (next .entry)) mark d (now (next .exit)) mark) ⌝ }
+pub fn push(own: Operation, mut c: Cells, next: &mut [u16]) -> Accessed
+    requires { ⌜ own .0 < length (now next) ⌝ }
+    ensures { λ d. ⌜ ((mark : List ℕ) → Does Push (own .0) c (now (next .entry)) mark d (now (next .exit)) mark) ⌝ }
 {
     if c.top == c.t {
-        c.top = own;
-        let node = own as usize;
+        c.top = own.0;
+        let node = own.0 as usize;
         next[node] = c.t;
         return answer(c, Outcome::Yes, Event::Linked);
     }

@@ -7,9 +7,9 @@ ghost use Rattle.job.specs.Job.{«job-of»};
 ghost use Rattle.machine.specs.Table.{«first-row»};
 ghost use Rattle.machine.specs.Run.{before, «operation-after»};
 use job::Kind;
-use machine::Operation;
+use job::Operation;
+use job::Process;
 use machine::Place;
-use machine::Process;
 use machine::Row;
 
 // The row where an operation begins.
@@ -23,14 +23,14 @@ pub fn first_row(object: Kind, put: bool) -> Row
 }
 
 // A place before the first step of an operation of the stream's job.
-pub fn begin(stream: &[u8], object: Kind, o: u16) -> Place
-    requires { ⌜ (4 * o + 3 < length (now stream)) × (object ≡ job-of (now stream) .object) ⌝ }
-    ensures { λ r. ⌜ r ≡ before (job-of (now (stream .entry))) o ⌝ }
+pub fn begin(stream: &[u8], object: Kind, o: Operation) -> Place
+    requires { ⌜ (4 * (o .0) + 3 < length (now stream)) × (object ≡ job-of (now stream) .object) ⌝ }
+    ensures { λ r. ⌜ r ≡ before (job-of (now (stream .entry))) (o .0) ⌝ }
 {
-    let put = stream[4 * (o as usize) + 3] == 1;
+    let put = stream[4 * (o.0 as usize) + 3] == 1;
     let row = first_row(object, put);
     Place {
-        operation: Operation(o),
+        operation: o,
         row,
         h: 0,
         t: 0,
@@ -39,16 +39,16 @@ pub fn begin(stream: &[u8], object: Kind, o: u16) -> Place
 }
 
 // The operation of a process that comes after operation o.
-pub fn next_operation(stream: &[u8], count: u16, p: Process, o: u16) -> u16
-    requires { ⌜ (count ≡ operations (now stream)) × (4 * count + 6 ≤ length (now stream)) × (count < 65535) × (o ≤ count) ⌝ }
-    ensures { λ r. ⌜ r ≡ operation-after (job-of (now (stream .entry))) (p .0) o ⌝ }
+pub fn next_operation(stream: &[u8], count: u16, p: Process, o: Operation) -> Operation
+    requires { ⌜ (count ≡ operations (now stream)) × (4 * count + 6 ≤ length (now stream)) × (count < 65535) × (o .0 ≤ count) ⌝ }
+    ensures { λ r. ⌜ r .0 ≡ operation-after (job-of (now (stream .entry))) (p .0) (o .0) ⌝ }
 {
-    let mut i = o + 1;
+    let mut i = o.0 + 1;
     while i <= count {
         if stream[4 * (i as usize) + 2] == p.0 {
-            return i;
+            return Operation(i);
         }
         i += 1;
     }
-    i
+    Operation(i)
 }

@@ -7,6 +7,15 @@ ghost use lib.ListN.{length};
 ghost use Rattle.job.specs.Stream.{operations, schedule-length, stream-length, record-at};
 ghost use Rattle.job.specs.Refusals.{first-met, outside, exact-count, bad-record, bad-records, bad-schedule, bad-padding, header-conditions, list-conditions};
 
+// An operation's number; operations count from 1, and 0 is none.
+pub struct Operation(pub u16);
+
+// A step's number; steps count from 1.
+pub struct Step(pub u16);
+
+// A process's number; processes count from 0.
+pub struct Process(pub u8);
+
 // Document 01: "kind (1 queue, 2 stack)".
 pub enum Kind {
     Queue,
@@ -103,11 +112,11 @@ pub fn header(s: &[u8]) -> u8
 }
 
 // Is the record of an operation out of range?
-fn bad_record(s: &[u8], o: usize) -> bool
-    requires { ⌜ (1 ≤ o) × (record-at o + 4 ≤ length (now s)) ⌝ }
-    ensures { λ r. ⌜ r ≡ bad-record (now (s .entry)) o ⌝ }
+fn bad_record(s: &[u8], o: Operation) -> bool
+    requires { ⌜ (1 ≤ o .0) × (record-at (o .0) + 4 ≤ length (now s)) ⌝ }
+    ensures { λ r. ⌜ r ≡ bad-record (now (s .entry)) (o .0) ⌝ }
 {
-    let place = 2 + 4 * o;
+    let place = 2 + 4 * (o.0 as usize);
     let action = s[place + 1];
     if s[place] >= s[1] {
         return true;
@@ -129,7 +138,7 @@ fn bad_records(s: &[u8]) -> bool
     let end = operations(s) as usize + 1;
     let mut o: usize = 1;
     while o < end {
-        if bad_record(s, o) {
+        if bad_record(s, Operation(o as u16)) {
             return true;
         }
         o += 1;

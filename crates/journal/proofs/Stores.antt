@@ -60,9 +60,12 @@ module _ (o k : ℕ) (start link taken stands : List ℕ) (e : Event) where
   unfolding noted cells
   noted-move n after line q p s = rw q (λ i. record { start = at start; link = at link; taken = p i; stands = s i })
 
-  pub noted-raise : (t : ℕ) (after line : List ℕ) → e ≡ Raised t → at after ≡ upd (at taken) o t → at line ≡ upd (at stands) t (max (at stands t) (at start o)) → cells start link after line ≡ noted e o k (cells start link taken stands)
+  pub noted-raise : (t round : ℕ) (after line : List ℕ) → e ≡ Raised t → round ≡ at start o → at after ≡ upd (at taken) o t → at line ≡ upd (at stands) t (max (at stands t) round) → cells start link after line ≡ noted e o k (cells start link taken stands)
   unfolding noted cells
-  noted-raise t after line q p s = rw q (λ i. record { start = at start; link = at link; taken = p i; stands = s i })
+  noted-raise t round after line q r p s =
+      rw q
+      (let own : at line ≡ upd (at stands) t (max (at stands t) (at start o)) = rw r at s in
+      λ i. record { start = at start; link = at link; taken = p i; stands = own i })
 
 -- the item's cell, where the event names it
 pub move-room : {n stands : ℕ} (e : Event) → e ≡ Moved n → item-of e < stands → n < stands

@@ -6,9 +6,9 @@ ghost use Rattle.basics.specs.Maps.{at, upd};
 ghost use Rattle.basics.specs.Choice.{pick};
 ghost use Rattle.journal.specs.Cells.{cells, noted, earlier, Room};
 ghost use Rattle.journal.specs.Stored.{Entered};
+use job::Operation;
+use job::Step;
 use machine::Event;
-use machine::Operation;
-use machine::Step;
 
 // Stores a value in a cell.
 pub fn store(cell: &mut [u16], i: u16, v: u16)
@@ -30,34 +30,42 @@ pub fn store_first(cell: &mut [u16], i: u16, k: Step)
 }
 
 // Stores a step in a cell whose step is not later.
-fn store_later(cell: &mut [u16], i: u16, k: u16)
+fn store_later(cell: &mut [u16], i: u16, k: Step)
     requires { ⌜ i < length (now cell) ⌝ }
-    ensures { λ r. ⌜ at (now (cell .exit)) ≡ upd (at (now (cell .entry))) i (max (at (now (cell .entry)) i) k) ⌝ }
+    ensures { λ r. ⌜ at (now (cell .exit)) ≡ upd (at (now (cell .entry))) i (max (at (now (cell .entry)) i) (k .0)) ⌝ }
 {
     let at = i as usize;
-    if cell[at] < k {
-        cell[at] = k;
+    if cell[at] < k.0 {
+        cell[at] = k.0;
     }
 }
 
 // T5 moved Head: the operation took the item, whose line stands at the first such step.
-fn note_move(n: u16, o: u16, k: Step, taken: &mut [u16], stands: &mut [u16])
-    requires { ⌜ (o < length (now taken)) × (n < length (now stands)) ⌝ }
-    ensures { λ r. ⌜ at (now (taken .exit)) ≡ upd (at (now (taken .entry))) o n ⌝ }
+fn note_move(n: u16, o: Operation, k: Step, taken: &mut [u16], stands: &mut [u16])
+    requires { ⌜ (o .0 < length (now taken)) × (n < length (now stands)) ⌝ }
+    ensures { λ r. ⌜ at (now (taken .exit)) ≡ upd (at (now (taken .entry))) (o .0) n ⌝ }
     ensures { λ r. ⌜ at (now (stands .exit)) ≡ upd (at (now (stands .entry))) n (earlier (at (now (stands .entry)) n) (k .0)) ⌝ }
 {
-    store(taken, o, n);
+    store(taken, o.0, n);
     store_first(stands, n, k);
 }
 
-// R3: the operation took the item, whose line stands at the latest of its takers' last rounds.
-fn note_raise(t: u16, o: u16, start: &[u16], taken: &mut [u16], stands: &mut [u16])
-    requires { ⌜ (o < length (now start)) × (o < length (now taken)) × (t < length (now stands)) ⌝ }
-    ensures { λ r. ⌜ at (now (taken .exit)) ≡ upd (at (now (taken .entry))) o t ⌝ }
-    ensures { λ r. ⌜ at (now (stands .exit)) ≡ upd (at (now (stands .entry))) t (max (at (now (stands .entry)) t) (at (now (start .entry)) o)) ⌝ }
+// The last round that operation o began.
+fn last_round(start: &[u16], o: Operation) -> Step
+    requires { ⌜ o .0 < length (now start) ⌝ }
+    ensures { λ r. ⌜ r .0 ≡ at (now (start .entry)) (o .0) ⌝ }
 {
-    store(taken, o, t);
-    store_later(stands, t, start[o as usize]);
+    Step(start[o.0 as usize])
+}
+
+// R3: the operation took the item, whose line stands at the latest of its takers' last rounds.
+fn note_raise(t: u16, o: Operation, round: Step, taken: &mut [u16], stands: &mut [u16])
+    requires { ⌜ (o .0 < length (now taken)) × (t < length (now stands)) ⌝ }
+    ensures { λ r. ⌜ at (now (taken .exit)) ≡ upd (at (now (taken .entry))) (o .0) t ⌝ }
+    ensures { λ r. ⌜ at (now (stands .exit)) ≡ upd (at (now (stands .entry))) t (max (at (now (stands .entry)) t) (round .0)) ⌝ }
+{
+    store(taken, o.0, t);
+    store_later(stands, t, round);
 }
 
 // Notes the event of step k, which operation o made.
@@ -77,9 +85,12 @@ pub fn note(
         Event::Quiet => {}
         Event::Round => store(start, o.0, k.0),
         Event::Linked => store(link, o.0, k.0),
-        Event::Moved(n) => note_move(n, o.0, k, taken, stands),
+        Event::Moved(n) => note_move(n, o, k, taken, stands),
         Event::Late(n) => store(taken, o.0, n),
-        Event::Raised(t) => note_raise(t, o.0, start, taken, stands),
+        Event::Raised(t) => {
+            let round = last_round(start, o);
+            note_raise(t, o, round, taken, stands)
+        }
     }
 }
 

@@ -1,7 +1,8 @@
 // The lines of a report, each laid at a place of lent memory.
 use job::Kind;
-use machine::Operation;
-use machine::Step;
+use job::Operation;
+use job::Process;
+use job::Step;
 use memory::word_at;
 use text::put_bytes;
 use text::put_labelled;
@@ -28,12 +29,12 @@ fn record_at(o: Operation) -> usize
 }
 
 // The process that does an operation.
-fn owner(stream: &[u8], o: Operation) -> u16
+fn owner(stream: &[u8], o: Operation) -> Process
     requires { ⌜ record-at (o .0) + 3 < length (now stream) ⌝ }
-    ensures { λ r. ⌜ r ≡ job-of (now (stream .entry)) .owner (o .0) ⌝ }
+    ensures { λ r. ⌜ r .0 ≡ job-of (now (stream .entry)) .owner (o .0) ⌝ }
 {
     let place = record_at(o);
-    stream[place] as u16
+    Process(stream[place])
 }
 
 // Is an operation a put?
@@ -144,7 +145,8 @@ fn put_front(out: &mut [u8], at: usize, stream: &[u8], o: Operation) -> usize
     ensures { λ r. ⌜ Wrote (now (out .entry)) (now (out .exit)) at r (front-text (job-of (now (stream .entry))) (o .0)) ⌝ }
 {
     let next = put_labelled(out, at, b"op ", o.0);
-    let next = put_labelled(out, next, b" process ", owner(stream, o));
+    let p = owner(stream, o);
+    let next = put_labelled(out, next, b" process ", p.0 as u16);
     put_action(out, next, stream, o)
 }
 

@@ -1,13 +1,6 @@
 // The words of a run that code and definitions share: rows, accesses, places and what a step was.
 
-// An operation's number; operations count from 1, and 0 is none.
-pub struct Operation(pub u16);
-
-// A step's number; steps count from 1.
-pub struct Step(pub u16);
-
-// A process's number; processes count from 0.
-pub struct Process(pub u8);
+use job::Operation;
 
 // Where an operation stands: at one of the nineteen rows of the two listings, or ended, with done, with item n, with item t,
 // or with empty.

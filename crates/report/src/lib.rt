@@ -1,5 +1,7 @@
 // The report of a finished run, from the arrays that it leaves.
 use job::Kind;
+use job::Operation;
+use job::Step;
 use job::operations;
 use lines::bound_takers;
 use lines::empty_line;
@@ -8,8 +10,6 @@ use lines::object_line;
 use lines::operation_line;
 use lines::put_line;
 use lines::take_line;
-use machine::Operation;
-use machine::Step;
 ghost use mathlib.Core.Path.{_≡_};
 ghost use Prim.Native.Nat.{_+_, _≤_, _<_};
 ghost use lib.ListN.{length};
@@ -195,16 +195,16 @@ fn bounded_lines(
     stands: &[u16],
     by: &[u16],
     count: u16,
-    reach: u16,
+    reach: Step,
 ) -> usize
-    requires { ⌜ (count ≡ job-of (now stream) .count) × (reach ≤ job-of (now stream) .steps) × Column 1 (job-of (now stream) .steps) (now by) (λ s. note (job-of (now stream)) s .by) × Bounds (Maps.at (now taken)) count (Maps.at (now skip)) (Maps.at (now beyond)) ⌝ }
+    requires { ⌜ (count ≡ job-of (now stream) .count) × (reach .0 ≤ job-of (now stream) .steps) × Column 1 (job-of (now stream) .steps) (now by) (λ s. note (job-of (now stream)) s .by) × Bounds (Maps.at (now taken)) count (Maps.at (now skip)) (Maps.at (now beyond)) ⌝ }
     requires { ⌜ HoldsEffects (job-of (now stream)) (job-of (now stream) .steps) (now last) (now start) (now link) (now taken) (now stands) ⌝ }
-    requires { ⌜ at + length (record-lines (lines-to (job-of (now stream)) (job-of (now stream) .steps) reach)) ≤ length (now out) ⌝ }
-    ensures { λ r. ⌜ Wrote (now (out .entry)) (now (out .exit)) at r (record-lines (lines-to (job-of (now (stream .entry))) (job-of (now (stream .entry)) .steps) reach)) ⌝ }
+    requires { ⌜ at + length (record-lines (lines-to (job-of (now stream)) (job-of (now stream) .steps) (reach .0))) ≤ length (now out) ⌝ }
+    ensures { λ r. ⌜ Wrote (now (out .entry)) (now (out .exit)) at r (record-lines (lines-to (job-of (now (stream .entry))) (job-of (now (stream .entry)) .steps) (reach .0))) ⌝ }
 {
     let mut place = at;
     let mut s: u16 = 0;
-    while s < reach {
+    while s < reach.0 {
         s += 1;
         place = line_at(
             out,
@@ -237,12 +237,12 @@ fn record_lines(
     stands: &[u16],
     by: &[u16],
     count: u16,
-    reach: u16,
+    reach: Step,
 ) -> usize
-    requires { ⌜ (count ≡ job-of (now stream) .count) × (reach ≤ job-of (now stream) .steps) × Column 1 (job-of (now stream) .steps) (now by) (λ s. note (job-of (now stream)) s .by) ⌝ }
+    requires { ⌜ (count ≡ job-of (now stream) .count) × (reach .0 ≤ job-of (now stream) .steps) × Column 1 (job-of (now stream) .steps) (now by) (λ s. note (job-of (now stream)) s .by) ⌝ }
     requires { ⌜ HoldsEffects (job-of (now stream)) (job-of (now stream) .steps) (now last) (now start) (now link) (now taken) (now stands) ⌝ }
-    requires { ⌜ at + length (record-lines (lines-to (job-of (now stream)) (job-of (now stream) .steps) reach)) ≤ length (now out) ⌝ }
-    ensures { λ r. ⌜ Wrote (now (out .entry)) (now (out .exit)) at r (record-lines (lines-to (job-of (now (stream .entry))) (job-of (now (stream .entry)) .steps) reach)) ⌝ }
+    requires { ⌜ at + length (record-lines (lines-to (job-of (now stream)) (job-of (now stream) .steps) (reach .0))) ≤ length (now out) ⌝ }
+    ensures { λ r. ⌜ Wrote (now (out .entry)) (now (out .exit)) at r (record-lines (lines-to (job-of (now (stream .entry))) (job-of (now (stream .entry)) .steps) (reach .0))) ⌝ }
 {
     let mut skip = [0u16; ITEMS];
     let mut beyond = [0u16; ITEMS];
@@ -333,7 +333,7 @@ pub fn write_report(
         stands,
         by,
         count,
-        reach.0,
+        reach,
     );
     left_of(out, at, stream, object, next, mark, head, top, count)
 }

@@ -12,7 +12,7 @@ use Rattle.job.specs.declared.Kind.{Kind}
 use Rattle.job.specs.Stream.{operations, scheduled}
 use Rattle.job.specs.Refusals.{most-operations, most-processes, most-steps}
 use Rattle.job.specs.Job.{Job, job-of}
-use Rattle.machine.specs.declared.Operation as Machine
+use Rattle.job.specs.declared.Operation as Machine
 use Rattle.machine.specs.declared.Place.{Place}
 use Rattle.machine.specs.Memory.{Memory, fresh-memory}
 use Rattle.machine.specs.Run.{ended, resting, registers, state-after, fresh-state, reached}
@@ -75,7 +75,7 @@ module _ {stream : List ℕ} {object : Kind} {count steps : ℕ} (r : Runnable s
   byte-in-range k h = subst (λ x. x < 8) (sym (entry-byte k)) (entry-in-range k h)
 
 -- at the start: fresh memory and an empty journal
-pub ran-at-start : (j : Job) {head tail top : ℕ} {next mark first last start link taken stands by : List ℕ} → head ≡ 0 → tail ≡ 0 → top ≡ 0 → AllBlank next mark first last start link taken stands by → Ran j 0 head tail top next mark first last start link taken stands by
+pub ran-at-start : (j : Job) {head tail top : ℕ} {next mark first last start link taken stands by : List ℕ} → head ≡ fresh-memory .head → tail ≡ fresh-memory .tail → top ≡ fresh-memory .top → AllBlank next mark first last start link taken stands by → Ran j 0 head tail top next mark first last start link taken stands by
 unfolding state-after fresh-state fresh-memory memory-of cells
 ran-at-start j h t p b =
     record {

@@ -13,7 +13,7 @@ use Rattle.basics.proofs.Choice.{split, pick-then, pick-else}
 use Rattle.basics.proofs.Maps.{upd-here, upd-there}
 use Rattle.job.specs.Refusals.{most-processes}
 use Rattle.job.specs.Job.{Job}
-use Rattle.machine.specs.declared.Operation as Machine
+use Rattle.job.specs.declared.Operation as Machine
 use Rattle.machine.specs.declared.Place.{Place}
 use Rattle.machine.specs.Memory.{Memory}
 use Rattle.machine.specs.Access.{Reached}

@@ -2,11 +2,12 @@
 use hands::begin;
 use hands::next_operation;
 use job::Kind;
+use job::Operation;
+use job::Process;
+use job::Step;
 use journal::enter;
 use journal::enter_end;
 use machine::Place;
-use machine::Process;
-use machine::Step;
 use place::advanced;
 use step::Stepped;
 use step::step;
@@ -16,6 +17,7 @@ ghost use Prim.Native.Nat.{_+_, _*_, _<_};
 ghost use lib.ListN.{length};
 ghost use Rattle.job.specs.Refusals.{«most-processes»};
 ghost use Rattle.job.specs.Job.{«job-of»};
+ghost use Rattle.machine.specs.Memory.{fresh-memory};
 ghost use Rattle.machine.specs.Run.{ended, before, «operation-after»};
 ghost use Rattle.machine.specs.Idle.{IdleBehind};
 ghost use Rattle.step.specs.Promise.{IsStep, «event-at»};
@@ -43,7 +45,7 @@ impl Object {
 
     // "A fresh queue has Head and Tail at node 0 and every next none; a fresh stack has Top none and every mark clear."
     pub fn fresh() -> Self
-        ensures { λ r. ⌜ (r .head ≡ 0) × (r .tail ≡ 0) × (r .top ≡ 0) ⌝ }
+        ensures { λ r. ⌜ (r .head ≡ fresh-memory .head) × (r .tail ≡ fresh-memory .tail) × (r .top ≡ fresh-memory .top) ⌝ }
     {
         Object {
             head: 0,
@@ -62,9 +64,9 @@ pub struct Finish {
 }
 
 // The place of process p before the operation that comes after operation o.
-fn place_after(stream: &[u8], object: Kind, count: u16, p: Process, o: u16) -> Place
-    requires { ⌜ Goes (now stream) object count o ⌝ }
-    ensures { λ r. ⌜ r ≡ before (job-of (now (stream .entry))) (operation-after (job-of (now (stream .entry))) (p .0) o) ⌝ }
+fn place_after(stream: &[u8], object: Kind, count: u16, p: Process, o: Operation) -> Place
+    requires { ⌜ Goes (now stream) object count (o .0) ⌝ }
+    ensures { λ r. ⌜ r ≡ before (job-of (now (stream .entry))) (operation-after (job-of (now (stream .entry))) (p .0) (o .0)) ⌝ }
 {
     let q = next_operation(stream, count, p, o);
     begin(stream, object, q)
@@ -75,11 +77,11 @@ fn line_up(stream: &[u8], object: Kind, count: u16) -> Run
     requires { ⌜ Goes (now stream) object count 0 ⌝ }
     ensures { λ r. ⌜ InPlace (job-of (now (stream .entry))) 0 (r .places) ⌝ }
 {
-    let first = place_after(stream, object, count, Process(0), 0);
+    let first = place_after(stream, object, count, Process(0), Operation(0));
     let mut run = Run { places: [first; 8] };
     let mut p: u8 = 1;
     while p < 8 {
-        let place = place_after(stream, object, count, Process(p), 0);
+        let place = place_after(stream, object, count, Process(p), Operation(0));
         run.places[p as usize] = place;
         p += 1;
     }
@@ -205,7 +207,7 @@ pub fn run_all(
         top = s.top;
         let row = s.row;
         if has_ended(row) {
-            let after = place_after(stream, object, count, Process(p), o.0);
+            let after = place_after(stream, object, count, Process(p), o);
             run.places[i] = after;
             if all_rest(run, count) {
                 return Finish {

@@ -16,14 +16,14 @@ use access::read_top_to_take;
 use access::tail_to_n;
 use access::tail_to_own;
 use access::top_to_next;
+use job::Operation;
+use job::Step;
 use journal::note;
 use machine::Access;
 use machine::Entry;
-use machine::Operation;
 use machine::Outcome;
 use machine::Place;
 use machine::Row;
-use machine::Step;
 ghost use mathlib.Core.Path.{_≡_};
 ghost use mathlib.Core.Bool.{false};
 ghost use lib.ListN.{length};
@@ -48,25 +48,25 @@ pub struct Stepped {
 // The same access, noted: what it was for the record, at step k of operation `own`.
 fn noted(
     d: Accessed,
-    own: u16,
+    own: Operation,
     k: Step,
     start: &mut [u16],
     link: &mut [u16],
     taken: &mut [u16],
     stands: &mut [u16],
 ) -> Accessed
-    requires { ⌜ Room (d .event) own (length (now start)) (length (now link)) (length (now taken)) (length (now stands)) ⌝ }
-    ensures { λ r. ⌜ (r ≡ d) × (cells (now (start .exit)) (now (link .exit)) (now (taken .exit)) (now (stands .exit)) ≡ Journal.noted (d .event) own (k .0) (cells (now (start .entry)) (now (link .entry)) (now (taken .entry)) (now (stands .entry)))) ⌝ }
+    requires { ⌜ Room (d .event) (own .0) (length (now start)) (length (now link)) (length (now taken)) (length (now stands)) ⌝ }
+    ensures { λ r. ⌜ (r ≡ d) × (cells (now (start .exit)) (now (link .exit)) (now (taken .exit)) (now (stands .exit)) ≡ Journal.noted (d .event) (own .0) (k .0) (cells (now (start .entry)) (now (link .entry)) (now (taken .entry)) (now (stands .entry)))) ⌝ }
 {
     let event = d.event;
-    note(event, Operation(own), k, start, link, taken, stands);
+    note(event, own, k, start, link, taken, stands);
     d
 }
 
 // The access `a` of operation `own`, at step k. It is noted in the arm that makes it, where the compiled code knows what it was.
 fn perform(
     a: Access,
-    own: u16,
+    own: Operation,
     k: Step,
     c: Cells,
     next: &mut [u16],
@@ -76,9 +76,9 @@ fn perform(
     taken: &mut [u16],
     stands: &mut [u16],
 ) -> Accessed
-    requires { ⌜ Inside own (c .h) (c .t) (now next) (now mark) × Room (heard a own c (now next) (now mark)) own (length (now start)) (length (now link)) (length (now taken)) (length (now stands)) ⌝ }
-    ensures { λ d. ⌜ Does a own c (now (next .entry)) (now (mark .entry)) d (now (next .exit)) (now (mark .exit)) ⌝ }
-    ensures { λ d. ⌜ cells (now (start .exit)) (now (link .exit)) (now (taken .exit)) (now (stands .exit)) ≡ Journal.noted (heard a own c (now (next .entry)) (now (mark .entry))) own (k .0) (cells (now (start .entry)) (now (link .entry)) (now (taken .entry)) (now (stands .entry))) ⌝ }
+    requires { ⌜ Inside (own .0) (c .h) (c .t) (now next) (now mark) × Room (heard a (own .0) c (now next) (now mark)) (own .0) (length (now start)) (length (now link)) (length (now taken)) (length (now stands)) ⌝ }
+    ensures { λ d. ⌜ Does a (own .0) c (now (next .entry)) (now (mark .entry)) d (now (next .exit)) (now (mark .exit)) ⌝ }
+    ensures { λ d. ⌜ cells (now (start .exit)) (now (link .exit)) (now (taken .exit)) (now (stands .exit)) ≡ Journal.noted (heard a (own .0) c (now (next .entry)) (now (mark .entry))) (own .0) (k .0) (cells (now (start .entry)) (now (link .entry)) (now (taken .entry)) (now (stands .entry))) ⌝ }
 {
     match a {
         Access::ReadHead => noted(read_head(c), own, k, start, link, taken, stands),
@@ -131,8 +131,7 @@ pub fn step(
     ensures { λ r. ⌜ IsStep p head tail top (now (next .entry)) (now (mark .entry)) r (now (next .exit)) (now (mark .exit)) ⌝ }
     ensures { λ r. ⌜ cells (now (start .exit)) (now (link .exit)) (now (taken .exit)) (now (stands .exit)) ≡ Journal.noted (event-at p head tail top (now (next .entry)) (now (mark .entry))) (p .operation .0) (k .0) (cells (now (start .entry)) (now (link .entry)) (now (taken .entry)) (now (stands .entry))) ⌝ }
 {
-    let o = p.operation;
-    let own = o.0;
+    let own = p.operation;
     let here = p.row;
     let e = table::row_of(here);
     let a = e.access;

@@ -129,8 +129,42 @@ pub fn traces() -> Vec<Trace> {
 }
 
 /// The sample jobs by the names of their files.
-pub fn all() -> [(&'static str, Draft); 3] {
-    [("listing", listing().draft), ("fifth-trace", fifth().draft), ("flood-hour", flood_hour())]
+pub fn all() -> Vec<(&'static str, Draft)> {
+    let mut samples = vec![("listing", listing().draft), ("fifth-trace", fifth().draft), ("flood-hour", flood_hour())];
+    samples.extend(alone());
+    samples.extend(met());
+    samples.push(("smallest", smallest()));
+    samples
+}
+
+fn queue(processes: u8, records: &[[u8; 4]], schedule: &[u8]) -> Draft {
+    Draft { kind: 1, processes, records: records.to_vec(), schedule: schedule.to_vec() }
+}
+
+fn stack(processes: u8, records: &[[u8; 4]], schedule: &[u8]) -> Draft {
+    Draft { kind: 2, ..queue(processes, records, schedule) }
+}
+
+/// The jobs of docs/STEPS.md where nobody else steps in between: how many steps each operation makes.
+fn alone() -> [(&'static str, Draft); 2] {
+    [
+        ("queue-alone", queue(1, &[take(0), put(0, 1200), take(0)], &[0; 11])),
+        ("stack-alone", stack(1, &[take(0), put(0, 1200), put(0, 1310), take(0), take(0)], &[0; 14])),
+    ]
+}
+
+/// The jobs of docs/STEPS.md where operations meet: a put that stays open, a take that stays open, a double on a stack.
+fn met() -> [(&'static str, Draft); 3] {
+    [
+        ("open-put", queue(2, &[put(0, 1200), take(1)], &[0, 0, 0, 1, 1, 1, 1, 1, 1, 1, 1])),
+        ("open-take", stack(3, &[put(0, 1200), take(1), take(2)], &[0, 0, 1, 1, 1, 2, 2, 2, 2])),
+        ("stack-double", stack(3, &[put(0, 1200), take(1), take(2)], &[0, 0, 1, 1, 2, 2, 1, 1, 2, 2])),
+    ]
+}
+
+/// The job whose file docs/FORMAT.md shows byte by byte: a put of 0 mm by process 1, and an idle step of process 0.
+fn smallest() -> Draft {
+    queue(2, &[put(1, 0)], &[1, 0, 1, 1, 1])
 }
 
 /// An hour of a flood: five gauges put rising stages, three uplinks take, at uneven speeds; some operations stay open or waiting.

@@ -16,7 +16,7 @@ unfolding access have-set reached-from reached-by memory-of event-of with-next w
 returns c =
     λ mark.
     rw (c .answer .ensures)
-    (record { reaches = rw (equal-same (c .before .if1 .taken), at-set _ _ _ (c .before .before .before .before .pre)); tells = refl })
+    (record { reaches = rw (equal-same (c .before .before .if1 .taken), at-set _ _ _ (c .before .before .before .before .before .pre)); tells = refl })
 
 returns-2 : tie.Need-returns-2
 unfolding access have-set reached-from reached-by memory-of event-of with-next with-top set-from-to yes-if pick
@@ -26,5 +26,5 @@ pub push-spec : {M : Type 1} → statement M
 push-spec =
     tie.close
     (tie.spec
-    (λ c. search needs) (λ c. search needs) (λ c κs. search needs) (λ c. search needs) returns (λ c κs. search needs)
+    (λ c. search needs) (λ c. search needs) (λ c. search needs) (λ c κs. search needs) (λ c. search needs) returns (λ c κs. search needs)
     returns-2)

@@ -4,6 +4,9 @@ use borrow.Author.Needs.{needs}
 use Rattle.hands.proofs.begin.Statement.{statement}
 use Rattle.hands.proofs.begin.Tie as tie
 
+cast-put : tie.Need-cast-put
+cast-put c = search needs
+
 mul-put : tie.Need-mul-put
 mul-put c = search needs
 
@@ -17,7 +20,7 @@ first-row-requires : tie.Need-first-row-requires
 first-row-requires c κs = search needs
 
 returns : tie.Need-returns
-returns c = begins _ _ _ _ (c .before .before .before .pre .1) (c .first-row .ensures)
+returns c = begins _ _ _ _ (c .before .before .before .before .pre .1) (c .first-row .ensures)
 
 pub begin-spec : {M : Type 1} → statement M
-begin-spec = tie.close (tie.spec mul-put add-put shared-slice-read-put first-row-requires returns)
+begin-spec = tie.close (tie.spec cast-put mul-put add-put shared-slice-read-put first-row-requires returns)

@@ -1,27 +1,23 @@
--- `hands::next_operation` meets its contract: the loop's invariant is that the search from i on finds what the whole search finds; the measure is how many operations are left. Assumes nothing.
+-- `hands::next_operation` meets its contract: the loop's invariant is that the search from i on finds what the search from its beginning finds; the measure is how many operations are left. Assumes nothing.
 use borrow.Author.Needs.{needs}
 use native.Mathlib.Omega.{arith}
-use mathlib.Core.Path.{sym, _∙_}
-use mathlib.Core.Path.{_≡_}
+use mathlib.Core.Path.{_≡_, refl, sym, _∙_}
 use Prim.Native.Nat.{_+_, _-_, _≤_}
-use Rattle.job.specs.Job.{job-of}
-use Rattle.machine.specs.Run.{operation-after}
 use Rattle.hands.proofs.Hands.{search-from, search-begins, search-finds, search-passes, search-ends}
 use Rattle.hands.proofs.next_operation.Statement.{statement}
 use Rattle.hands.proofs.next_operation.Tie as tie
 
 abbrev Inv-loop : tie.InvT-loop
-Inv-loop stream count p o i₀ i =
-    (i ≤ count + 1) × (operation-after (job-of stream) (p .0) o ≡ search-from stream (p .0) i)
+Inv-loop stream count p i₀ i = (i ≤ count + 1) × (search-from stream (p .0) i₀ ≡ search-from stream (p .0) i)
 
 abbrev μ-loop : tie.MeasureT-loop
-μ-loop stream count p o i₀ i = (count + 1) - i
+μ-loop stream count p i₀ i = (count + 1) - i
 
 add-i : tie.Need-add-i Inv-loop μ-loop
 add-i c = search needs
 
 loop-holds : tie.Need-loop-holds Inv-loop μ-loop
-loop-holds c = (search needs, search-begins _ _ _ (omega arith))
+loop-holds c = (search needs, refl)
 
 cast-if1 : tie.Need-cast-if1 Inv-loop μ-loop
 cast-if1 c = search needs
@@ -36,7 +32,7 @@ shared-slice-read-if1 : tie.Need-shared-slice-read-if1 Inv-loop μ-loop
 shared-slice-read-if1 c = search needs
 
 returns : tie.Need-returns Inv-loop μ-loop
-returns c = sym (c .before .before .before .before .loop .inv .1 ∙ search-finds _ _ _ (omega arith) (c .if1 .taken))
+returns c = sym (search-begins _ _ _ (omega arith) ∙ c .before .before .before .before .loop .inv .1 ∙ search-finds _ _ _ (omega arith) (c .if1 .taken))
 
 add-i-2 : tie.Need-add-i-2 Inv-loop μ-loop
 add-i-2 c = search needs
@@ -48,7 +44,7 @@ loop-again : tie.Need-loop-again Inv-loop μ-loop
 loop-again c = (search needs, c .before .before .before .before .loop .inv .1 ∙ search-passes _ _ _ (omega arith) (c .if1 .left))
 
 returns-2 : tie.Need-returns-2 Inv-loop μ-loop
-returns-2 c = sym (c .before .loop .inv .1 ∙ search-ends _ _ _ (omega arith))
+returns-2 c = sym (search-begins _ _ _ (omega arith) ∙ c .before .loop .inv .1 ∙ search-ends _ _ _ (omega arith))
 
 pub next-operation-spec : {M : Type 1} → statement M
 next-operation-spec =

@@ -7,6 +7,9 @@ use native.Mathlib.Omega.{arith}
 use Rattle.job.proofs.bad_record.Statement.{statement}
 use Rattle.job.proofs.bad_record.Tie as tie
 
+cast-place : tie.Need-cast-place
+cast-place c = search needs
+
 mul-place : tie.Need-mul-place
 unfolding record-at
 mul-place c = omega arith
@@ -32,16 +35,16 @@ unfolding record-at
 shared-slice-read-if1-2 c = omega arith
 
 returns : tie.Need-returns
-returns c = process-met (c .before .before .before .before .before .args .s .now) (c .before .before .before .before .before .args .o) (c .if1 .taken)
+returns c = process-met (c .before .before .before .before .before .before .args .s .now) (c .before .before .before .before .before .before .args .o .0) (c .if1 .taken)
 
 cast-outside : tie.Need-cast-outside
-cast-outside c = omega (arith, c .before .before .before .shared-slice-known2 .given (2 + 4 * c .before .before .before .before .before .args .o + 1))
+cast-outside c = omega (arith, c .before .before .before .shared-slice-known2 .given (2 + 4 * c .before .before .before .before .before .before .args .o .0 + 1))
 
 outside-requires : tie.Need-outside-requires
 outside-requires c κs = search needs
 
 returns-2 : tie.Need-returns-2
-returns-2 c = action-met (c .before .before .before .before .before .before .before .args .s .now) (c .before .before .before .before .before .before .before .args .o) (c .before .outside .ensures) (c .if2 .taken)
+returns-2 c = action-met (c .before .before .before .before .before .before .before .before .args .s .now) (c .before .before .before .before .before .before .before .before .args .o .0) (c .before .outside .ensures) (c .if2 .taken)
 
 add-word-at : tie.Need-add-word-at
 unfolding record-at
@@ -52,15 +55,16 @@ unfolding record-at
 word-at-requires c κs = omega arith
 
 returns-3 : tie.Need-returns-3
-returns-3 c = take-value (c .before .before .before .before .before .before .before .before .before .args .s .now) (c .before .before .before .before .before .before .before .before .before .args .o) (c .before .before .before .before .if1 .left) (c .before .before .before .outside .ensures) (c .before .before .if2 .left) (c .before .if3 .taken) (c .word-at .ensures)
+returns-3 c = take-value (c .before .before .before .before .before .before .before .before .before .before .args .s .now) (c .before .before .before .before .before .before .before .before .before .before .args .o .0) (c .before .before .before .before .if1 .left) (c .before .before .before .outside .ensures) (c .before .before .if2 .left) (c .before .if3 .taken) (c .word-at .ensures)
 
 returns-4 : tie.Need-returns-4
-returns-4 c = put-value (c .before .before .before .before .before .before .before .before .args .s .now) (c .before .before .before .before .before .before .before .before .args .o) (c .before .before .before .if1 .left) (c .before .before .outside .ensures) (c .before .if2 .left) (c .if3 .left)
+returns-4 c = put-value (c .before .before .before .before .before .before .before .before .before .args .s .now) (c .before .before .before .before .before .before .before .before .before .args .o .0) (c .before .before .before .if1 .left) (c .before .before .outside .ensures) (c .before .if2 .left) (c .if3 .left)
 
 pub bad-record-spec : {M : Type 1} → statement M
 bad-record-spec =
     tie.close
     (tie.spec
+    cast-place
     mul-place
     add-place
     add-action

@@ -30,6 +30,9 @@ loop-holds : tie.Need-loop-holds Inv-loop μ-loop
 unfolding bad-records
 loop-holds c = (omega arith, omega arith, any-from-one (bad-record (c .before .before .args .s .now)) (c .operations .ensures))
 
+cast-t8 : tie.Need-cast-t8 Inv-loop μ-loop
+cast-t8 c = omega (arith, c .before .before .operations .ensures)
+
 bad-record-requires : tie.Need-bad-record-requires Inv-loop μ-loop
 unfolding record-at stream-length
 bad-record-requires c κs = omega (arith, c .before .before .operations .ensures)
@@ -59,6 +62,7 @@ bad-records-spec =
     cast-end
     add-end
     loop-holds
+    cast-t8
     bad-record-requires
     returns
     add-o

@@ -34,8 +34,11 @@ store-requires-3 c κs = search needs
 enum-known-event-3 : tie.Need-enum-known-event-3
 enum-known-event-3 c = search needs
 
+last-round-requires : tie.Need-last-round-requires
+last-round-requires c κs = search needs
+
 note-raise-requires : tie.Need-note-raise-requires
-note-raise-requires c κs = (search needs, search needs, raise-room _ (c .before .before .before .before .event3 .given .1) (c .before .before .before .before .before .before .before .before .before .before .pre .in-stands))
+note-raise-requires c κs = (search needs, raise-room _ (c .before .before .before .before .before .event3 .given .1) (c .before .before .before .before .before .before .before .before .before .before .before .pre .in-stands))
 
 returns : tie.Need-returns
 returns c = noted-quiet _ _ _ _ _ _ _ (c .enum-told .given .1)
@@ -77,7 +80,7 @@ same-length-8 : tie.Need-same-length-8
 same-length-8 c = search needs
 
 returns-6 : tie.Need-returns-6
-returns-6 c = noted-raise _ _ _ _ _ _ _ _ _ _ (c .before .before .before .before .before .before .before .before .before .event3 .given .1) (c .before .before .before .before .note-raise .ensures .0) (c .before .before .before .before .note-raise .ensures .1)
+returns-6 c = noted-raise _ _ _ _ _ _ _ _ _ _ _ (c .before .before .before .before .before .before .before .before .before .before .event3 .given .1) (c .before .before .before .before .before .before .before .last-round .ensures) (c .before .before .before .before .note-raise .ensures .0) (c .before .before .before .before .note-raise .ensures .1)
 
 pub note-spec : {M : Type 1} → statement M
 note-spec =
@@ -93,6 +96,7 @@ note-spec =
     enum-known-event-2
     store-requires-3
     enum-known-event-3
+    last-round-requires
     note-raise-requires
     returns
     same-length

@@ -1,7 +1,6 @@
 -- `lines::owner` meets its contract. Assumes nothing.
 use mathlib.Core.Path.{ap}
 use Prim.Native.Nat.{ℕ}
-use native.Mathlib.Omega.{arith}
 use borrow.Author.Needs.{needs}
 use Rattle.basics.specs.Maps.{at}
 use Rattle.job.specs.Stream.{process}
@@ -12,15 +11,12 @@ use Rattle.lines.proofs.owner.Tie as tie
 record-at-requires : tie.Need-record-at-requires
 record-at-requires c κs = search needs
 
-shared-slice-read-result : tie.Need-shared-slice-read-result
-shared-slice-read-result c = search needs
-
-cast-result : tie.Need-cast-result
-cast-result c = omega (arith, c .shared-slice-known2 .given (c .before .record-at .result))
+shared-slice-read-t5 : tie.Need-shared-slice-read-t5
+shared-slice-read-t5 c = search needs
 
 returns : tie.Need-returns
 unfolding job-of process at
 returns c = ap (λ (i : ℕ). at (c .before .before .before .args .stream .now) i) (c .before .record-at .ensures)
 
 pub owner-spec : {M : Type 1} → statement M
-owner-spec = tie.close (tie.spec record-at-requires shared-slice-read-result cast-result returns)
+owner-spec = tie.close (tie.spec record-at-requires shared-slice-read-t5 returns)

@@ -20,24 +20,27 @@ put-labelled-requires c κs =
     let same = front-pieces (job-of (start .args .stream .now)) (start .args .o .0) refl in
     omega (arith, simp length-append at (ap length same))
 
+owner-requires : tie.Need-owner-requires
+owner-requires c κs = search needs
+
 slice-aggregate-put-labelled-2 : tie.Need-slice-aggregate-put-labelled-2
 slice-aggregate-put-labelled-2 c = search needs
 
-owner-requires : tie.Need-owner-requires
-owner-requires c κs = search needs
+cast-put-labelled : tie.Need-cast-put-labelled
+cast-put-labelled c = search needs
 
 put-labelled-requires-2 : tie.Need-put-labelled-requires-2
 unfolding text
 put-labelled-requires-2 c κs =
-    let start = c .before .before .before .before .before .before .before .before .before .before in
-    let same = front-pieces (job-of (start .args .stream .now)) (start .args .o .0) (c .owner .ensures) in
+    let start = c .before .before .before .before .before .before .before .before .before .before .before in
+    let same = front-pieces (job-of (start .args .stream .now)) (start .args .o .0) (c .before .before .before .owner .ensures) in
     omega (arith, simp length-append at (ap length same))
 
 put-action-requires : tie.Need-put-action-requires
 unfolding text
 put-action-requires c κs =
-    let start = c .before .before .before .before .before .before .before .before .before .before .before .before .before .before in
-    let same = front-pieces (job-of (start .args .stream .now)) (start .args .o .0) (c .before .before .before .before .owner .ensures) in
+    let start = c .before .before .before .before .before .before .before .before .before .before .before .before .before .before .before in
+    let same = front-pieces (job-of (start .args .stream .now)) (start .args .o .0) (c .before .before .before .before .before .before .before .owner .ensures) in
     (start .pre .0, omega (arith, simp length-append at (ap length same)))
 
 same-length : tie.Need-same-length
@@ -46,9 +49,9 @@ same-length c = search needs
 returns : tie.Need-returns
 unfolding text
 returns c =
-    let start = c .before .before .before .before .before .before .before .before .before .before .before .before .before .before .before .before .before in
-    let same = front-pieces (job-of (start .args .stream .now)) (start .args .o .0) (c .before .before .before .before .before .before .before .owner .ensures) in
-    wrote-three same (start .pre .1) (c .before .before .before .before .before .before .before .before .before .before .before .before .put-labelled .ensures) (c .before .before .before .before .before .before .put-labelled2 .ensures) (c .before .before .put-action .ensures)
+    let start = c .before .before .before .before .before .before .before .before .before .before .before .before .before .before .before .before .before .before in
+    let same = front-pieces (job-of (start .args .stream .now)) (start .args .o .0) (c .before .before .before .before .before .before .before .before .before .before .owner .ensures) in
+    wrote-three same (start .pre .1) (c .before .before .before .before .before .before .before .before .before .before .before .before .before .put-labelled .ensures) (c .before .before .before .before .before .before .put-labelled2 .ensures) (c .before .before .put-action .ensures)
 
 pub put-front-spec : {M : Type 1} → statement M
 put-front-spec =
@@ -56,8 +59,9 @@ put-front-spec =
     (tie.spec
     slice-aggregate-put-labelled
     put-labelled-requires
-    slice-aggregate-put-labelled-2
     owner-requires
+    slice-aggregate-put-labelled-2
+    cast-put-labelled
     put-labelled-requires-2
     put-action-requires
     same-length

@@ -13,41 +13,41 @@ use Rattle.report.proofs.bounded_lines.Tie as tie
 
 abbrev Inv-loop : tie.InvT-loop
 Inv-loop out₀ at stream last start link taken skip beyond stands by count reach place₀ s₀ out place s =
-    Written (step-text (job-of stream) (job-of stream .steps)) reach s out₀ out at place
+    Written (step-text (job-of stream) (job-of stream .steps)) (reach .0) s out₀ out at place
 
 abbrev μ-loop : tie.MeasureT-loop
-μ-loop out₀ at stream last start link taken skip beyond stands by count reach place₀ s₀ out place s = reach - s
+μ-loop out₀ at stream last start link taken skip beyond stands by count reach place₀ s₀ out place s = reach .0 - s
 
 loop-holds : tie.Need-loop-holds Inv-loop μ-loop
 loop-holds c =
     let start = c .before .before .before .before .before .before .before .before .before .before in
     let job = job-of (start .args .stream .now) in
-    written-none _ _ _ _ (omega (arith, ap length (record-is-each job (job .steps) (start .args .reach))))
+    written-none _ _ _ _ (omega (arith, ap length (record-is-each job (job .steps) (start .args .reach .0))))
 
 add-s : tie.Need-add-s Inv-loop μ-loop
 add-s c = omega arith
 
 line-at-requires : tie.Need-line-at-requires Inv-loop μ-loop
 line-at-requires c κs =
-    let start = c .before .before .before .before .before .before .before .before .before .before .before .before .before in
+    let start = c .before .before .before .before .before .before .before .before .before .before .before .before .before .before in
     let job = job-of (start .args .stream .now) in
-    let room = written-room (c .before .before .loop .inv) (c .before .loop-test .taken) in
+    let room = written-room (c .before .before .before .loop .inv) (c .before .if1 .taken) in
     ((start .pre .0 .0, start .pre .0 .2, omega arith, omega (arith, start .pre .0 .1), start .pre .0 .3), (start .pre .1 .0, room))
 
 loop-less : tie.Need-loop-less Inv-loop μ-loop
 loop-less c = omega arith
 
 loop-again : tie.Need-loop-again Inv-loop μ-loop
-loop-again c = written-more (c .before .before .before .before .before .loop .inv) (c .before .before .before .before .loop-test .taken) (c .before .before .line-at .ensures)
+loop-again c = written-more (c .before .before .before .before .before .before .loop .inv) (c .before .before .before .before .if1 .taken) (c .before .before .line-at .ensures)
 
 same-length : tie.Need-same-length Inv-loop μ-loop
-same-length c = c .before .loop .inv .wrote .as-long
+same-length c = c .before .before .loop .inv .wrote .as-long
 
 returns : tie.Need-returns Inv-loop μ-loop
 returns c =
-    let start = c .before .before .before .before .before .before .before .before .before .before .before .before in
+    let start = c .before .before .before .before .before .before .before .before .before .before .before .before .before in
     let job = job-of (start .args .stream .now) in
-    wrote-as (record-is-each job (job .steps) (start .args .reach)) (written-all (c .before .loop .inv) (c .loop-test .left))
+    wrote-as (record-is-each job (job .steps) (start .args .reach .0)) (written-all (c .before .before .loop .inv) (c .if1 .left))
 
 pub bounded-lines-spec : {M : Type 1} → statement M
 bounded-lines-spec =

@@ -1,0 +1,40 @@
+//! Replays the job file on standard input through the library and prints the report, or the refusal.
+
+use std::io::{self, Read, Write};
+use std::process::ExitCode;
+
+// a slice is passed as a pointer and its length; include/bench.h says what else a caller must know
+unsafe extern "C" {
+    fn bench_replay(
+        file: *const u8,
+        file_length: usize,
+        work: *mut u8,
+        work_length: usize,
+        report: *mut u8,
+        report_length: usize,
+    ) -> u64;
+}
+
+const WORK: usize = 17_710;
+const REPORT: usize = 32_768;
+
+/// The report of a job file, or the number of its refusal.
+fn replay(file: &[u8]) -> Result<Vec<u8>, u32> {
+    let mut work = vec![0; WORK];
+    let mut report = vec![0; REPORT];
+    // SAFETY: each pointer and length is one slice's, and the two that are written belong to this call alone.
+    let answer =
+        unsafe { bench_replay(file.as_ptr(), file.len(), work.as_mut_ptr(), work.len(), report.as_mut_ptr(), report.len()) };
+    let (number, length) = ((answer >> 32) as u32, answer as u32 as usize);
+    report.truncate(length);
+    if number == 0 { Ok(report) } else { Err(number) }
+}
+
+fn main() -> io::Result<ExitCode> {
+    let mut file = vec![];
+    io::stdin().read_to_end(&mut file)?;
+    match replay(&file) {
+        Ok(report) => io::stdout().write_all(&report).map(|()| ExitCode::SUCCESS),
+        Err(number) => writeln!(io::stdout(), "refused {number}").map(|()| ExitCode::FAILURE),
+    }
+}

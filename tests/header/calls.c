@@ -1,0 +1,218 @@
+/* What include/bench.h tells a caller, tried: calls JOB REPORT, a full-size job and its report. Its last line is 'N passed, M failed'. */
+#define _POSIX_C_SOURCE 200809L
+#include <pthread.h>
+#include <stdio.h>
+#include <stdlib.h>
+#include <string.h>
+
+#include "bench.h"
+
+enum { PAINT = 0xa5, SLACK = 8, THREADS = 4, ROUNDS = 25, LARGE_STACK = 1 << 20 };
+
+static uint8_t file[BENCH_FILE], expected[BENCH_REPORT], stream[BENCH_WORK];
+static size_t file_length, expected_length, stream_length;
+static int passed, failed;
+
+static void expect(int holds, const char *what) {
+    if (holds) {
+        passed++;
+    } else {
+        failed++;
+        printf("%s: no\n", what);
+    }
+}
+
+static size_t load(const char *name, uint8_t *memory, size_t length) {
+    FILE *from = fopen(name, "rb");
+    size_t n = from ? fread(memory, 1, length, from) : 0;
+    if (n == 0) {
+        printf("%s cannot be read\n", name);
+        exit(1);
+    }
+    fclose(from);
+    return n;
+}
+
+/* Memories of one call, each `at` bytes behind the start of a painted one. */
+struct Room {
+    uint8_t work[BENCH_WORK + SLACK], report[BENCH_REPORT + SLACK], out[BENCH_FILE + SLACK];
+};
+
+static struct Room *painted(void) {
+    struct Room *room = (struct Room *)malloc(sizeof *room);
+    if (!room) exit(1);
+    memset(room, PAINT, sizeof *room);
+    return room;
+}
+
+static int still_painted(const struct Room *room) {
+    const uint8_t *byte = (const uint8_t *)room;
+    for (size_t i = 0; i < sizeof *room; i++)
+        if (byte[i] != PAINT) return 0;
+    return 1;
+}
+
+static int is_the_report(uint64_t answer, const uint8_t *report) {
+    return BENCH_NUMBER(answer) == 0 && BENCH_LENGTH(answer) == expected_length && memcmp(report, expected, expected_length) == 0;
+}
+
+static void answers_are_taken_apart(void) {
+    expect(BENCH_NUMBER(((uint64_t)12 << 32) + 345) == 12, "the number of an answer");
+    expect(BENCH_LENGTH(((uint64_t)12 << 32) + 345) == 345, "the length of an answer");
+}
+
+static void least_lengths(void) {
+    struct Room *room = painted();
+    expect(bench_replay(file, file_length, room->work, BENCH_WORK - 1, room->report, BENCH_REPORT) == (uint64_t)1 << 32, "replay, work short by one");
+    expect(bench_replay(file, file_length, room->work, BENCH_WORK, room->report, BENCH_REPORT - 1) == (uint64_t)1 << 32, "replay, report short by one");
+    expect(bench_read(file, file_length, room->work, BENCH_WORK - 1) == (uint64_t)1 << 32, "read, work short by one");
+    expect(bench_write(stream, stream_length, room->out, BENCH_FILE - 1) == (uint64_t)1 << 32, "write, output short by one");
+    expect(still_painted(room), "nothing is touched after number 1");
+
+    expect(is_the_report(bench_replay(file, file_length, room->work, BENCH_WORK, room->report, BENCH_REPORT), room->report), "replay, least lengths");
+    expect(bench_read(file, file_length, room->work, BENCH_WORK) == stream_length, "read, least length");
+    expect(memcmp(room->work, stream, BENCH_WORK) == 0, "read, the stream and zeros");
+    expect(bench_write(stream, stream_length, room->out, BENCH_FILE) == file_length, "write, least length");
+    expect(memcmp(room->out, file, file_length) == 0, "write, the file");
+    free(room);
+}
+
+static void null_with_length_0(void) {
+    struct Room *room = painted();
+    expect(BENCH_NUMBER(bench_replay(NULL, 0, room->work, BENCH_WORK, room->report, BENCH_REPORT)) == 2, "replay, no file");
+    expect(BENCH_NUMBER(bench_replay(file, file_length, NULL, 0, room->report, BENCH_REPORT)) == 1, "replay, no work");
+    expect(BENCH_NUMBER(bench_replay(file, file_length, room->work, BENCH_WORK, NULL, 0)) == 1, "replay, no report");
+    expect(BENCH_NUMBER(bench_replay(NULL, 0, NULL, 0, NULL, 0)) == 1, "replay, nothing");
+    expect(BENCH_NUMBER(bench_read(NULL, 0, room->work, BENCH_WORK)) == 2, "read, no file");
+    expect(BENCH_NUMBER(bench_read(file, file_length, NULL, 0)) == 1, "read, no work");
+    expect(BENCH_NUMBER(bench_write(NULL, 0, room->out, BENCH_FILE)) == 2, "write, no stream");
+    expect(BENCH_NUMBER(bench_write(stream, stream_length, NULL, 0)) == 1, "write, no output");
+    free(room);
+}
+
+static void any_alignment(void) {
+    uint8_t *from = (uint8_t *)malloc(BENCH_FILE + SLACK);
+    if (!from) exit(1);
+    for (size_t at = 0; at < SLACK; at++) {
+        struct Room *room = painted();
+        uint8_t *work = room->work + at, *report = room->report + SLACK - 1 - at, *out = room->out + at;
+        memcpy(from + at, file, file_length);
+        expect(is_the_report(bench_replay(from + at, file_length, work, BENCH_WORK, report, BENCH_REPORT), report), "replay, any alignment");
+        expect(bench_read(from + at, file_length, work, BENCH_WORK) == stream_length, "read, any alignment");
+        expect(bench_write(work, stream_length, out, BENCH_FILE) == file_length && memcmp(out, file, file_length) == 0, "write, any alignment");
+        free(room);
+    }
+    free(from);
+}
+
+/* A call made on a thread: which one, and how far below its caller the stack was used. */
+struct Call {
+    int (*make)(struct Room *);
+    struct Room *room;
+    int good;
+    uint8_t *frame;
+};
+
+static int replays(struct Room *room) {
+    return is_the_report(bench_replay(file, file_length, room->work, BENCH_WORK, room->report, BENCH_REPORT), room->report);
+}
+
+static int reads(struct Room *room) {
+    return bench_read(file, file_length, room->work, BENCH_WORK) == stream_length;
+}
+
+static int writes(struct Room *room) {
+    return bench_write(stream, stream_length, room->out, BENCH_FILE) == file_length;
+}
+
+static void *make(void *call) {
+    struct Call *c = (struct Call *)call;
+    c->frame = (uint8_t *)__builtin_frame_address(0);
+    c->good = c->make(c->room);
+    return NULL;
+}
+
+static void on_thread(struct Call *call, pthread_attr_t *with) {
+    pthread_t thread;
+    if (pthread_create(&thread, with, make, call) != 0 || pthread_join(thread, NULL) != 0) {
+        puts("a thread cannot be made");
+        exit(1);
+    }
+}
+
+static void small_stack(void) {
+    struct Call call = {replays, (struct Room *)malloc(sizeof(struct Room)), 0, NULL};
+    pthread_attr_t with;
+    pthread_attr_init(&with);
+    if (!call.room || pthread_attr_setstacksize(&with, BENCH_STACK) != 0) exit(1);
+    on_thread(&call, &with);
+    expect(call.good, "replay on a stack of BENCH_STACK bytes");
+    pthread_attr_destroy(&with);
+    free(call.room);
+}
+
+/* How many bytes of stack a call uses below its caller: the deepest that is no longer painted. */
+static size_t stack_of(int (*make)(struct Room *)) {
+    struct Call call = {make, painted(), 0, NULL};
+    void *memory;
+    pthread_attr_t with;
+    pthread_attr_init(&with);
+    if (posix_memalign(&memory, 4096, LARGE_STACK) != 0 || pthread_attr_setstack(&with, memory, LARGE_STACK) != 0) exit(1);
+    memset(memory, PAINT, LARGE_STACK);
+    on_thread(&call, &with);
+    uint8_t *deepest = (uint8_t *)memory;
+    while (*deepest == PAINT) deepest++;
+    size_t used = (size_t)(call.frame - deepest);
+    expect(call.good, "a call on a painted stack");
+    pthread_attr_destroy(&with);
+    free(memory);
+    free(call.room);
+    return used;
+}
+
+static void stack_used(void) {
+    size_t replay = stack_of(replays), read = stack_of(reads), write = stack_of(writes);
+    printf("stack used: replay %zu, read %zu, write %zu bytes\n", replay, read, write);
+    expect(replay < 39000, "a replay uses some 38 KB of stack");
+    expect(replay + 26000 <= BENCH_STACK, "BENCH_STACK leaves 16 KB for the caller, and 10 KB for the thread and the dynamic linker");
+    expect(read < 1000 && write < 1000, "a read or a write uses less than 1 KB of stack");
+}
+
+static void *again_and_again(void *good) {
+    struct Room *room = painted();
+    *(int *)good = 1;
+    for (int i = 0; i < ROUNDS; i++)
+        if (!replays(room) || !reads(room) || !writes(room)) *(int *)good = 0;
+    free(room);
+    return NULL;
+}
+
+static void threads_at_once(void) {
+    pthread_t thread[THREADS];
+    int good[THREADS];
+    for (int i = 0; i < THREADS; i++)
+        if (pthread_create(&thread[i], NULL, again_and_again, &good[i]) != 0) exit(1);
+    for (int i = 0; i < THREADS; i++) {
+        pthread_join(thread[i], NULL);
+        expect(good[i], "calls of several threads at once, on the same file");
+    }
+}
+
+int main(int count, char **argument) {
+    if (count != 3) return 2;
+    file_length = load(argument[1], file, sizeof file);
+    expected_length = load(argument[2], expected, sizeof expected);
+    /* first, so that on this small stack memset still has to be looked up by the dynamic linker */
+    small_stack();
+    uint64_t read = bench_read(file, file_length, stream, sizeof stream);
+    stream_length = BENCH_LENGTH(read);
+    expect(BENCH_NUMBER(read) == 0 && stream_length > 0, "the job is accepted");
+    answers_are_taken_apart();
+    least_lengths();
+    null_with_length_0();
+    any_alignment();
+    stack_used();
+    threads_at_once();
+    printf("%d passed, %d failed\n", passed, failed);
+    return failed != 0;
+}
