@@ -3,6 +3,7 @@ use mathlib.Core.Path.{_≡_, refl, sym, ap, subst, _∙_}
 use Prim.Native.Nat.{ℕ, zero, suc}
 use mathlib.Core.Bool.{Bool, true, false}
 use mathlib.Core.List.{List, [], _∷_, _++_, append-assoc, append-nil}
+use Rattle.basics.specs.Choice.{same}
 use Rattle.basics.specs.Text.{text, decimal}
 use Rattle.basics.proofs.Choice.{pick-then, pick-else}
 use Rattle.machine.specs.Effects.{numbers, sift}
@@ -11,6 +12,7 @@ use Rattle.machine.proofs.Lists.{sift-append}
 use Rattle.text.specs.Laid.{Wrote}
 use Rattle.text.proofs.Rest.{Rest, rest-none}
 use Rattle.text.proofs.Each.{each-to}
+use Rattle.lines.specs.Members.{takers-of}
 
 pub spaced-append : (a b : List ℕ) → spaced (a ++ b) ≡ spaced a ++ spaced b
 unfolding spaced
@@ -31,13 +33,18 @@ pub member-out : (f : ℕ → Bool) (x : ℕ) → f x ≡ false → member f x �
 unfolding spaced sift
 member-out f x t = ap spaced (pick-else (x ∷ []) [] t)
 
-pub members-to : (f : ℕ → Bool) (n : ℕ) → each-to (member f) n ≡ spaced (sift f (numbers n))
+members-to : (f : ℕ → Bool) (n : ℕ) → each-to (member f) n ≡ spaced (sift f (numbers n))
 unfolding each-to numbers sift spaced
 members-to f zero = refl
 members-to f (suc n) =
     ap (λ (l : List ℕ). l ++ member f (suc n)) (members-to f n)
     ∙ sym (spaced-append (sift f (numbers n)) (sift f (suc n ∷ [])))
     ∙ ap spaced (sym (sift-append f (numbers n) (suc n ∷ [])))
+
+-- so the takers of an item are the operations that took it, one after another
+pub takers-each : (taken : ℕ → ℕ) (count item : ℕ) → each-to (member (λ o. same (taken o) item)) count ≡ spaced (takers-of taken count item)
+unfolding takers-of
+takers-each taken count item = members-to (λ o. same (taken o) item) count
 
 -- equal lists are written alike
 pub spaced-same : {before after whole l m : List ℕ} {at place : ℕ} → m ≡ l → Rest before after at place (spaced l) whole → Rest before after at place (spaced m) whole

@@ -24,7 +24,7 @@ put-progress-requires c κs =
     let start = c .before .before .before .before .before .before .before in
     let job = job-of (start .args .stream .now) in
     let same = line-pieces job (job .steps) (start .args .o .0) in
-    (start .pre .0 .1, (start .pre .1 .0, omega (arith, simp length-append at (ap length same))))
+    (search needs, (start .pre .1 .0, omega (arith, simp length-append at (ap length same))))
 
 slice-aggregate-put-bytes : tie.Need-slice-aggregate-put-bytes
 slice-aggregate-put-bytes c = search needs

@@ -11,9 +11,8 @@ use Rattle.basics.specs.Maps as Maps
 use Rattle.basics.proofs.Choice.{equal-same, unequal-same}
 use Rattle.text.proofs.Laid.{wrote-as}
 use Rattle.text.proofs.Each.{Written, written-none, written-room, written-more, written-same, written-all}
-use Rattle.lines.specs.Members.{takers-of}
 use Rattle.lines.proofs.Bounds.{skipped, ended}
-use Rattle.lines.proofs.Spaced.{member, member-in, member-out, members-to}
+use Rattle.lines.proofs.Spaced.{member, member-in, member-out, takers-each}
 use Rattle.lines.proofs.put_takers.Statement.{statement}
 use Rattle.lines.proofs.put_takers.Tie as tie
 
@@ -39,10 +38,9 @@ sub-end c =
     omega (arith, c .cell2 .ensures, start .pre .2 .beyonds (start .args .item .0))
 
 loop-holds : tie.Need-loop-holds Inv-loop μ-loop
-unfolding takers-of
 loop-holds c =
     let start = c .before .before .before .before .before .before in
-    skipped (start .pre .2) (start .args .item .0) (written-none _ _ _ _ (omega (arith, ap length (members-to (took (start .args .taken .now) (start .args .item .0)) (start .args .count))))) (c .before .cell .ensures) refl
+    skipped (start .pre .2) (start .args .item .0) (written-none _ _ _ _ (omega (arith, ap length (takers-each (Maps.at (start .args .taken .now)) (start .args .count) (start .args .item .0))))) (c .before .cell .ensures) refl
 
 add-o : tie.Need-add-o Inv-loop μ-loop
 add-o c = omega arith
@@ -86,10 +84,9 @@ same-length : tie.Need-same-length Inv-loop μ-loop
 same-length c = c .before .loop .inv .wrote .as-long
 
 returns : tie.Need-returns Inv-loop μ-loop
-unfolding takers-of
 returns c =
     let start = c .before .before .before .before .before .before .before .before in
-    wrote-as (members-to (took (start .args .taken .now) (start .args .item .0)) (start .args .count)) (written-all (ended (start .pre .2) (start .args .item .0) (c .before .loop .inv) (c .before .before .cell2 .ensures) (c .loop-test .left)) (omega arith))
+    wrote-as (takers-each (Maps.at (start .args .taken .now)) (start .args .count) (start .args .item .0)) (written-all (ended (start .pre .2) (start .args .item .0) (c .before .loop .inv) (c .before .before .cell2 .ensures) (c .loop-test .left)) (omega arith))
 
 pub put-takers-spec : {M : Type 1} → statement M
 put-takers-spec =
