@@ -1,13 +1,14 @@
 # Why the prover refused a must-fail edit: the first error of its log, and whether that is a fact that does not hold.
-# Run with -v at=must-fail/CRATE/EDIT/ on the edit and its log. Prints 'fact' or 'no fact', a tab, and what failed first.
+# Run in the C locale with -v at=must-fail/CRATE/EDIT/ on the edit and its log. Prints 'fact' or 'no fact', a tab, and what failed first.
 
 # the edit: which files it changes
 FNR == NR { if (sub(/^file: /, "")) edited[$0] = 1; next }
 
 /^logic=not-proved/ { refused = 1 }
 
-# the first error and the lines that go on with it, which are indented
+# the first error and the lines that go on with it, which are indented; what waits on another error comes from that
 first != "" { if (!whole && /^  /) text = text substr($0, 2); else whole = 1; next }
+/: error: .* was not admitted/ { next }
 /^fn .*: no proof: / { first = text = $0; next }
 /^[^ ]/ {
     i = index($0, at)
@@ -56,11 +57,19 @@ function fault(    said) {
     return "not known as the failure of a fact"
 }
 
+# the start of a line, no character cut; the log has it whole
+function short(line) {
+    if (length(line) <= 160) return line
+    line = substr(line, 1, 160)
+    sub(/[\300-\377][\200-\277]*$/, "", line)
+    return line " …"
+}
+
 END {
     file = first
     sub(/:.*/, "", file)
     if (!refused) why = "it did not come to the prover, or was not refused"
     else if (first == "") why = "no error is told"
     else why = fault()
-    print (why == "" ? "fact\t" : "no fact\t" why ": ") first
+    print (why == "" ? "fact\t" : "no fact\t" why ": ") short(first)
 }
