@@ -62,13 +62,14 @@ pub struct Entry {
     pub no: Row,
 }
 
-// The place of one process: the operation in hand, the row where it stands, and its registers, which hold nodes.
+// The place of one process: the operation in hand, its registers, which hold nodes, and the row where it stands. The row is last: right
+// behind the operation, compiled code would load the two at once that it stored one by one, and wait.
 pub struct Place {
     pub operation: Operation,
-    pub row: Row,
     pub h: u16,
     pub t: u16,
     pub n: u16,
+    pub row: Row,
 }
 
 // What a step was for the record.

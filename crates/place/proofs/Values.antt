@@ -37,7 +37,7 @@ row-val = EL.val R.the-type R′.the-laws
 -- the machine value of the place that goes on
 pub onward-is : (p : Place) (row : Row) (h t n : ℕ) → Is T.the-row p (vals p) → Is R.the-row row (row-val row ∷ []) → h < 2 ^ 16 → t < 2 ^ 16 → n < 2 ^ 16 → Is T.the-row (onward p row h t n) (vals (onward p row h t n))
 onward-is p row h t n was row-is h-fits t-fits n-fits =
-    LL.owes T.the-type T′.the-laws (onward p row h t n) (LL.owed T.the-type T′.the-laws p (vals p) was .0, (row-is, ((refl, h-fits), ((refl, t-fits), ((refl, n-fits), tt)))))
+    LL.owes T.the-type T′.the-laws (onward p row h t n) (LL.owed T.the-type T′.the-laws p (vals p) was .0, ((refl, h-fits), ((refl, t-fits), ((refl, n-fits), (row-is, tt)))))
 
 module _ {M : Type 1} (𝓤 : URA M) (H : Heap 𝓤) (A : Atoms 𝓤) (W : Given 𝓤 H A) where
   pub place-typed : (p : Place) → Is T.the-row p (vals p) → Holds (hasTy T′.mir (val p)) × WT (val p)
