@@ -87,10 +87,11 @@ traces =
       expected = "object queue\nop 1 process 0 put 50 first 2 last 17 done\nop 2 process 1 put 51 first 4 last 16 done\nop 3 process 2 put 52 first 10 last 23 done\nat 6 put 1\nat 15 put 2\nat 22 put 3\nleft 3 1 2 3\n";
     }
     -- A queue take that helps: T3 that reads a node behind h = t, T4 that moves Tail, then T1 T2 T3 T5. Put 3 finds Tail moved; take 4 runs T5 for
-    -- item 1 before take 2 does, whose own T5 comes when Head is two nodes further. 505 mm, taken, is 51.
+    -- item 1 before take 2 does, whose own T5 comes when Head is two nodes further. 505 mm, taken, is 51; the two readings are equal,
+    -- the items are not.
     ∷ record {
-      job = stream 1 3 (put 0 505 ∷ take 1 ∷ put 2 600 ∷ take 2 ∷ take 2 ∷ []) (0 ∷ 0 ∷ 0 ∷ 1 ∷ 1 ∷ 1 ∷ 1 ∷ 2 ∷ 2 ∷ 2 ∷ 2 ∷ 1 ∷ 1 ∷ 1 ∷ 2 ∷ 2 ∷ 2 ∷ 2 ∷ 2 ∷ 2 ∷ 2 ∷ 2 ∷ 1 ∷ 0 ∷ []);
-      expected = "object queue\nop 1 process 0 put 51 first 1 last 24 done\nop 2 process 1 take first 4 last 23 item 1 value 51\nop 3 process 2 put 60 first 8 last 11 done\nop 4 process 2 take first 15 last 18 item 1 value 51\nop 5 process 2 take first 19 last 22 item 3 value 60\nat 3 put 1\nat 10 put 3\nat 18 take 1 by 2 4\nat 22 take 3 by 5\nleft 0\n";
+      job = stream 1 3 (put 0 505 ∷ take 1 ∷ put 2 505 ∷ take 2 ∷ take 2 ∷ []) (0 ∷ 0 ∷ 0 ∷ 1 ∷ 1 ∷ 1 ∷ 1 ∷ 2 ∷ 2 ∷ 2 ∷ 2 ∷ 1 ∷ 1 ∷ 1 ∷ 2 ∷ 2 ∷ 2 ∷ 2 ∷ 2 ∷ 2 ∷ 2 ∷ 2 ∷ 1 ∷ 0 ∷ []);
+      expected = "object queue\nop 1 process 0 put 51 first 1 last 24 done\nop 2 process 1 take first 4 last 23 item 1 value 51\nop 3 process 2 put 51 first 8 last 11 done\nop 4 process 2 take first 15 last 18 item 1 value 51\nop 5 process 2 take first 19 last 22 item 3 value 51\nat 3 put 1\nat 10 put 3\nat 18 take 1 by 2 4\nat 22 take 3 by 5\nleft 0\n";
     }
     -- A queue take whose T4 finds Tail moved, and that goes round to find the queue empty: its line stands at its last T1, step 13.
     ∷ record {
