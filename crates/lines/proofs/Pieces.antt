@@ -7,10 +7,11 @@ use mathlib.Core.List.{List, _++_, append-assoc}
 use Rattle.basics.specs.Choice.{pick, same}
 use Rattle.basics.specs.Text.{text, decimal}
 use Rattle.basics.proofs.Choice.{pick-then, pick-else, equal-same, unequal-same}
+use Rattle.stage.specs.Centimetres.{centimetres}
 use Rattle.job.specs.Job.{Job}
 use Rattle.machine.specs.Journal.{Answer}
 use Rattle.machine.specs.Journal
-use Rattle.machine.specs.Report.{centimetres, action-text, answer-text, progress-text, operation-line}
+use Rattle.machine.specs.Report.{action-text, answer-text, progress-text, operation-line}
 use Rattle.lines.specs.Told.{said, Told, front-text}
 
 module _ (j : Job) (o : ℕ) {put : Bool} (e : put ≡ j .is-put o) where

@@ -4,6 +4,7 @@ use job::Operation;
 use job::Process;
 use job::Step;
 use memory::word_at;
+use stage::centimetres;
 use text::put_bytes;
 use text::put_labelled;
 ghost use mathlib.Core.Path.{_≡_};
@@ -17,7 +18,7 @@ ghost use Rattle.job.specs.Stream.{record-at};
 ghost use Rattle.job.specs.Job.{job-of};
 ghost use Rattle.machine.specs.Multiplicity.{Line};
 ghost use Rattle.machine.specs.Journal.{Answer};
-ghost use Rattle.machine.specs.Report.{centimetres, object-line, action-text, answer-text, progress-text, operation-line, spaced, effect-text, record-line, left-line};
+ghost use Rattle.machine.specs.Report.{object-line, action-text, answer-text, progress-text, operation-line, spaced, effect-text, record-line, left-line};
 ghost use Rattle.lines.specs.Told.{said, Told, front-text};
 ghost use Rattle.lines.specs.Members.{takers-of, Bounds, Stored, stays, left-from, Nodes};
 
@@ -53,13 +54,6 @@ fn millimetres(stream: &[u8], o: Operation) -> u16
 {
     let place = record_at(o);
     word_at(stream, place + 2)
-}
-
-// Whole centimetres, half a centimetre upward.
-fn centimetres(mm: u16) -> u16
-    ensures { λ r. ⌜ r ≡ centimetres mm ⌝ }
-{
-    ((mm as u32 + 5) / 10) as u16
 }
 
 // The object of a stream.

@@ -10,6 +10,7 @@ use Rattle.basics.specs.Choice.{pick, same}
 use Rattle.basics.specs.Text.{text, decimal}
 use Rattle.basics.proofs.Choice.{pick-elim, same-unequal}
 use Rattle.basics.proofs.Text.{decimal-length}
+use Rattle.stage.specs.Centimetres.{centimetres, off, rounded}
 use Rattle.job.specs.declared.Kind.{Kind}
 use Rattle.job.specs.declared.Kind.the-variants.{Queue, Stack}
 use Rattle.job.specs.Refusals.{most-operations, most-steps}
@@ -20,7 +21,7 @@ use Rattle.machine.specs.Journal.{Answer, first, last, answer}
 use Rattle.machine.specs.Record.{Recorded, the-record}
 use Rattle.machine.specs.Left.{left}
 use Rattle.machine.specs.Explained.{members, Says, Answered, Operation, Explained}
-use Rattle.machine.specs.Report.{centimetres, object-line, action-text, answer-text, progress-text, operation-line, operation-lines, spaced, effect-text, record-line, record-lines, left-line, report}
+use Rattle.machine.specs.Report.{object-line, action-text, answer-text, progress-text, operation-line, operation-lines, spaced, effect-text, record-line, record-lines, left-line, report}
 use Rattle.machine.proofs.Stamps.{first-le, last-le}
 use Rattle.machine.proofs.Explains.Steps.{Placed, placed}
 use Rattle.machine.proofs.Theorem.{explained}
@@ -54,8 +55,8 @@ module _ (j : Job) (fits : Fits j) where
   operation-length o op = decimal-length 2 o (omega (arith, fits .operations))
 
   value-length : (o : ℕ) → Operation j o → length (decimal (centimetres (j .millimetres o))) ≤ 4
-  unfolding centimetres
-  value-length o op = decimal-length 3 (centimetres (j .millimetres o)) (omega (arith, fits .values o op))
+  unfolding off
+  value-length o op = decimal-length 3 (centimetres (j .millimetres o)) (omega (arith, fits .values o op, rounded (j .millimetres o) .near))
 
   step-length : (s : ℕ) → s ≤ j .steps → length (decimal s) ≤ 5
   unfolding most-steps

@@ -1,10 +1,11 @@
 -- The report as bytes. Document 01, "The report, whole": operation lines in number order, record lines in step order, then `left`. "Each
 -- line ends in a newline."
-use Prim.Native.Nat.{ℕ, zero, suc, _+_, _/_}
+use Prim.Native.Nat.{ℕ, zero, suc}
 use mathlib.Core.List.{List, [], _∷_, _++_}
 use lib.ListN.{length}
 use Rattle.basics.specs.Choice.{pick, same}
 use Rattle.basics.specs.Text.{text, decimal}
+use Rattle.stage.specs.Centimetres.{centimetres}
 use Rattle.job.specs.declared.Kind.{Kind}
 use Rattle.job.specs.declared.Kind.the-variants.{Queue, Stack}
 use Rattle.job.specs.Job.{Job}
@@ -14,16 +15,12 @@ use Rattle.machine.specs.Journal.{Answer, first, last, answer}
 use Rattle.machine.specs.Record.{Recorded, the-record}
 use Rattle.machine.specs.Left.{left}
 
--- "put and value in whole cm, half a cm upward"
-unfoldable pub centimetres : ℕ → ℕ
-centimetres mm = (mm + 5) / 10
-
 -- `object queue`; "Kind 2 prints `object stack`."
 unfoldable pub object-line : Kind → List ℕ
 object-line Queue = text "object queue\n"
 object-line Stack = text "object stack\n"
 
--- `put 50` or `take`
+-- `put 50` or `take`; "put and value in whole cm"
 unfoldable pub action-text : Job → ℕ → List ℕ
 action-text j o = pick (j .is-put o) (text " put " ++ decimal (centimetres (j .millimetres o))) (text " take")
 

@@ -1,0 +1,2 @@
+-- What fixes a printed value.
+pub mod Rounding

@@ -1,0 +1,2 @@
+-- What a report prints of a stage.
+pub mod Centimetres
