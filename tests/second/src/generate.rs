@@ -141,7 +141,7 @@ fn owners(random: &mut Random, style: Style, processes: u8) -> Vec<u8> {
 
 fn value(random: &mut Random) -> u16 {
     match random.below(4) {
-        0 => *random.pick(&[0, 4, 5, 9, 10, 94, 95, 504, 505, 65_534, 65_535]),
+        0 => *random.pick(&[0, 4, 5, 9, 10, 15, 94, 95, 504, 505, 515, 65_534, 65_535]),
         1 => (random.below(6_553) * 10 + 5) as u16,
         _ => random.word() as u16,
     }

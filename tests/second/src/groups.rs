@@ -9,6 +9,7 @@ pub mod limits;
 pub mod outcomes;
 pub mod rooms;
 pub mod traces;
+pub mod values;
 
 use crate::check::Seen;
 use crate::compare::Compare;

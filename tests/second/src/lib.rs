@@ -1,4 +1,4 @@
-//! A second replayer, written from document 01 alone, and what is needed to compare the library with it.
+//! A second replayer, written from documents 01 and 02 alone, and what is needed to compare the library with it.
 //! The replayer: job, file, machine, queue, stack, report, calls. The tests: generate, damage, check, library, compare, failure, proved.
 
 pub mod calls;

@@ -32,9 +32,15 @@ fn report<O: Object>(job: &Job, machine: &Machine<O>, memory: &mut [u8]) -> usiz
     text.length()
 }
 
-/// A value in whole cm, half a cm upward.
+/// A value in whole cm: the nearest, and half way between two the even one.
 fn centimetres(record: &Record) -> u16 {
-    ((u32::from(job::value(record)) + 5) / 10) as u16
+    let value = job::value(record);
+    let below = value / 10;
+    match value % 10 {
+        0..5 => below,
+        5 => below + below % 2,
+        _ => below + 1,
+    }
 }
 
 fn step(text: &mut Text, step: u16) {

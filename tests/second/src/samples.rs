@@ -1,10 +1,11 @@
-//! Sample jobs: the traces of document 01 with their texts, written out by hand, the jobs that docs/ shows, and a full-size hour of a flood.
+//! Sample jobs: the traces of document 01, as document 02 has them, with their texts, written out by hand, the jobs that docs/ shows, and a
+//! full-size hour of a flood.
 
 pub mod flood;
 
 use crate::generate::{Draft, put, take};
 
-/// A job and the report that document 01 gives for it.
+/// A job and the report that the papers give for it.
 pub struct Trace {
     pub name: &'static str,
     pub draft: Draft,
@@ -44,11 +45,32 @@ pub fn fifth() -> Trace {
         "object stack\n\
          op 1 process 0 put 120 first 1 last 2 done\n\
          op 2 process 1 take first 3 last 9 item 1 value 120\n\
-         op 3 process 0 put 131 first 5 last 7 done\n\
+         op 3 process 0 put 130 first 5 last 7 done\n\
          at 2 put 1\n\
          at 3 take 1 by 2\n\
          at 7 put 3\n\
          left 1 3\n",
+    )
+}
+
+/// Stages half way between two centimetres, and one that is not.
+pub fn halves() -> Trace {
+    trace(
+        "halves of a centimetre",
+        1,
+        1,
+        &[put(0, 504), put(0, 505), put(0, 515), put(0, 65_535)],
+        &[0; 16],
+        "object queue\n\
+         op 1 process 0 put 50 first 1 last 4 done\n\
+         op 2 process 0 put 50 first 5 last 8 done\n\
+         op 3 process 0 put 52 first 9 last 12 done\n\
+         op 4 process 0 put 6554 first 13 last 16 done\n\
+         at 3 put 1\n\
+         at 7 put 2\n\
+         at 11 put 3\n\
+         at 15 put 4\n\
+         left 4 1 2 3 4\n",
     )
 }
 
@@ -74,19 +96,19 @@ fn short_traces() -> Vec<Trace> {
             "no steps",
             1,
             3,
-            &[put(0, 504), take(1), put(2, 505)],
+            &[put(0, 504), take(1), put(2, 515)],
             &[],
             "object queue\n\
              op 1 process 0 put 50 first - last - waiting\n\
              op 2 process 1 take first - last - waiting\n\
-             op 3 process 2 put 51 first - last - waiting\n\
+             op 3 process 2 put 52 first - last - waiting\n\
              left 0\n",
         ),
     ]
 }
 
 fn stack_traces() -> Vec<Trace> {
-    let records = [put(0, 505), take(1), take(2)];
+    let records = [put(0, 515), take(1), take(2)];
     vec![
         trace(
             "two takers of one item",
@@ -95,9 +117,9 @@ fn stack_traces() -> Vec<Trace> {
             &records,
             &[0, 0, 1, 1, 2, 2, 1, 1, 2, 2],
             "object stack\n\
-             op 1 process 0 put 51 first 1 last 2 done\n\
-             op 2 process 1 take first 3 last 8 item 1 value 51\n\
-             op 3 process 2 take first 5 last 10 item 1 value 51\n\
+             op 1 process 0 put 52 first 1 last 2 done\n\
+             op 2 process 1 take first 3 last 8 item 1 value 52\n\
+             op 3 process 2 take first 5 last 10 item 1 value 52\n\
              at 2 put 1\n\
              at 5 take 1 by 2 3\n\
              left 0\n",
@@ -109,8 +131,8 @@ fn stack_traces() -> Vec<Trace> {
             &records,
             &[0, 0, 1, 1, 2, 1, 2, 2, 2, 1],
             "object stack\n\
-             op 1 process 0 put 51 first 1 last 2 done\n\
-             op 2 process 1 take first 3 last 10 item 1 value 51\n\
+             op 1 process 0 put 52 first 1 last 2 done\n\
+             op 2 process 1 take first 3 last 10 item 1 value 52\n\
              op 3 process 2 take first 5 last 9 empty\n\
              at 2 put 1\n\
              at 3 take 1 by 2\n\
@@ -120,9 +142,9 @@ fn stack_traces() -> Vec<Trace> {
     ]
 }
 
-/// All traces of document 01.
+/// All traces of the papers.
 pub fn traces() -> Vec<Trace> {
-    let mut traces = vec![listing(), fifth()];
+    let mut traces = vec![listing(), fifth(), halves()];
     traces.extend(short_traces());
     traces.extend(stack_traces());
     traces
@@ -133,6 +155,7 @@ pub fn all() -> Vec<(&'static str, Draft)> {
     let mut samples = vec![("listing", listing().draft), ("fifth-trace", fifth().draft), ("flood-hour", flood::hour())];
     samples.extend(alone());
     samples.extend(met());
+    samples.push(("halves", halves().draft));
     samples.push(("smallest", smallest()));
     samples
 }

@@ -1,7 +1,7 @@
 //! The gate run. Its last line is 'N passed, M failed', counted in test groups.
 
 use second::generate::STYLES;
-use second::groups::{self, Bench, bytes, every, faults, jobs, lengths, limits, outcomes, rooms, traces};
+use second::groups::{self, Bench, bytes, every, faults, jobs, lengths, limits, outcomes, rooms, traces, values};
 use std::process::ExitCode;
 
 /// Jobs of each style, and the first seed.
@@ -14,6 +14,7 @@ fn main() -> ExitCode {
     bench.group("traces that are proved, every outcome", outcomes::proved);
     bench.group("sample files", traces::samples);
     bench.group("limits of the paper", limits::paper);
+    bench.group("values, every one", values::every);
     for style in STYLES {
         bench.group(&format!("jobs, {style:?}"), |bench: &mut Bench| jobs::of_style(bench, style, JOBS, FIRST_SEED));
     }

@@ -30,10 +30,13 @@ pub fn operations(job: &Job, facts: &Facts, report: &Report) -> Result<(), Strin
     Ok(())
 }
 
-/// "In whole cm, half a cm upward."
+/// Of the centimetres around a value the one that is less than half a cm off, or half off and even.
 fn centimetres(record: &Record) -> u16 {
     let value = job::value(record);
-    value / 10 + u16::from(value % 10 >= 5)
+    let below = value / 10;
+    let off = value - 10 * below;
+    let down = off < 5 || off == 5 && below.is_multiple_of(2);
+    if down { below } else { below + 1 }
 }
 
 fn ending(job: &Job, own: &Operation) -> Ending {

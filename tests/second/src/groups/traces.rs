@@ -1,4 +1,4 @@
-//! The traces of document 01, against the texts of the paper, and the sample files.
+//! The traces of document 01, as document 02 has them, against the texts of the paper, and the sample files.
 
 use super::Bench;
 use crate::compare::ENOUGH;

@@ -1,0 +1,21 @@
+//! Every value that a put may have, as its put prints it and as a take that gets it does.
+
+use super::Bench;
+use crate::generate::{Draft, put, take};
+
+/// Puts of one job, and as many takes.
+const PUTS: usize = 128;
+/// Steps of a queue's put or take that nobody disturbs.
+const STEPS: usize = 4;
+
+pub fn every(bench: &mut Bench) -> Result<usize, String> {
+    let values: Vec<u16> = (0..=u16::MAX).collect();
+    for part in values.chunks(PUTS) {
+        let puts = part.iter().map(|&value| put(0, value));
+        let records: Vec<_> = puts.chain([take(0); PUTS]).collect();
+        let schedule = vec![0; STEPS * records.len()];
+        let seen = bench.compare.job(&Draft { kind: 1, processes: 1, records, schedule }.stream())?;
+        bench.seen.add(&seen);
+    }
+    Ok(values.len())
+}
