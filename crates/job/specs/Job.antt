@@ -16,8 +16,8 @@ pub record Job : Type 0 where
   pub owner : ℕ → ℕ
   -- is an operation a put? Else it is a take
   pub is-put : ℕ → Bool
-  -- the value that a put brings, in mm
-  pub millimetres : ℕ → ℕ
+  -- the value field of an operation's record; what it says in mm: `millimetres` of crate stage
+  pub field : ℕ → ℕ
   -- the schedule's length, S; steps are 1 to S
   pub steps : ℕ
   -- the process that the schedule names for a step
@@ -31,7 +31,7 @@ job-of s =
       count = operations s;
       owner = process s;
       is-put = λ o. same (action s o) 1;
-      millimetres = value s;
+      field = value s;
       steps = schedule-length s;
       entry = scheduled s;
     }

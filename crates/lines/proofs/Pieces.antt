@@ -7,7 +7,7 @@ use mathlib.Core.List.{List, _++_, append-assoc}
 use Rattle.basics.specs.Choice.{pick, same}
 use Rattle.basics.specs.Text.{text, decimal}
 use Rattle.basics.proofs.Choice.{pick-then, pick-else, equal-same, unequal-same}
-use Rattle.stage.specs.Centimetres.{centimetres}
+use Rattle.stage.specs.Printed.{stage-text}
 use Rattle.job.specs.Job.{Job}
 use Rattle.machine.specs.Journal.{Answer}
 use Rattle.machine.specs.Journal
@@ -15,22 +15,22 @@ use Rattle.machine.specs.Report.{action-text, answer-text, progress-text, opera
 use Rattle.lines.specs.Told.{said, Told, front-text}
 
 module _ (j : Job) (o : ℕ) {put : Bool} (e : put ≡ j .is-put o) where
-  pub action-of-put : {mm cm : ℕ} → put ≡ true → mm ≡ j .millimetres o → cm ≡ centimetres mm → text " put " ++ decimal cm ≡ action-text j o
+  pub action-of-put : {field : ℕ} → put ≡ true → field ≡ j .field o → text " put " ++ stage-text field ≡ action-text j o
   unfolding action-text
-  action-of-put {mm} {cm} p m f =
-      ap (λ (n : ℕ). text " put " ++ decimal n) (f ∙ ap centimetres m)
-      ∙ sym (pick-then (text " put " ++ decimal (centimetres (j .millimetres o))) (text " take") (sym e ∙ p))
+  action-of-put {field} p f =
+      ap (λ (n : ℕ). text " put " ++ stage-text n) f
+      ∙ sym (pick-then (text " put " ++ stage-text (j .field o)) (text " take") (sym e ∙ p))
 
   pub action-of-take : put ≡ false → text " take" ≡ action-text j o
   unfolding action-text
-  action-of-take p = sym (pick-else (text " put " ++ decimal (centimetres (j .millimetres o))) (text " take") (sym e ∙ p))
+  action-of-take p = sym (pick-else (text " put " ++ stage-text (j .field o)) (text " take") (sym e ∙ p))
 
 module _ (j : Job) where
-  pub item-and-value : (n : ℕ) {mm cm : ℕ} → mm ≡ j .millimetres n → cm ≡ centimetres mm → text " item " ++ decimal n ++ (text " value " ++ decimal cm) ≡ answer-text j (Answer.item n)
+  pub item-and-value : (n : ℕ) {field : ℕ} → field ≡ j .field n → text " item " ++ decimal n ++ (text " value " ++ stage-text field) ≡ answer-text j (Answer.item n)
   unfolding answer-text
-  item-and-value n {mm} {cm} m f =
-      ap (λ (c : ℕ). text " item " ++ decimal n ++ (text " value " ++ decimal c)) (f ∙ ap centimetres m)
-      ∙ sym (append-assoc (text " item " ++ decimal n) (text " value ") (decimal (centimetres (j .millimetres n))))
+  item-and-value n {field} f =
+      ap (λ (v : ℕ). text " item " ++ decimal n ++ (text " value " ++ stage-text v)) f
+      ∙ sym (append-assoc (text " item " ++ decimal n) (text " value ") (stage-text (j .field n)))
 
   module _ (link item : ℕ) where
     pub answer-of-link : link ≢ 0 → text " done" ≡ answer-text j (said link item)

@@ -4,7 +4,7 @@ use job::Operation;
 use job::Process;
 use job::Step;
 use memory::word_at;
-use stage::centimetres;
+use stage::put_stage;
 use text::put_bytes;
 use text::put_labelled;
 ghost use mathlib.Core.Path.{_≡_};
@@ -47,10 +47,10 @@ fn is_put(stream: &[u8], o: Operation) -> bool
     stream[place + 1] == 1
 }
 
-// The value of a put, in mm.
-fn millimetres(stream: &[u8], o: Operation) -> u16
+// The value field of an operation.
+fn field(stream: &[u8], o: Operation) -> u16
     requires { ⌜ record-at (o .0) + 3 < length (now stream) ⌝ }
-    ensures { λ r. ⌜ r ≡ job-of (now (stream .entry)) .millimetres (o .0) ⌝ }
+    ensures { λ r. ⌜ r ≡ job-of (now (stream .entry)) .field (o .0) ⌝ }
 {
     let place = record_at(o);
     word_at(stream, place + 2)
@@ -73,7 +73,7 @@ fn put_action(out: &mut [u8], at: usize, stream: &[u8], o: Operation) -> usize
     ensures { λ r. ⌜ Wrote (now (out .entry)) (now (out .exit)) at r (action-text (job-of (now (stream .entry))) (o .0)) ⌝ }
 {
     if is_put(stream, o) {
-        return put_labelled(out, at, b" put ", centimetres(millimetres(stream, o)));
+        return put_stage(out, at, b" put ", field(stream, o));
     }
     put_bytes(out, at, b" take")
 }
@@ -84,12 +84,7 @@ fn put_item(out: &mut [u8], at: usize, stream: &[u8], item: Operation) -> usize
     ensures { λ r. ⌜ Wrote (now (out .entry)) (now (out .exit)) at r (answer-text (job-of (now (stream .entry))) (Answer.item (item .0))) ⌝ }
 {
     let next = put_labelled(out, at, b" item ", item.0);
-    put_labelled(
-        out,
-        next,
-        b" value ",
-        centimetres(millimetres(stream, item)),
-    )
+    put_stage(out, next, b" value ", field(stream, item))
 }
 
 // The answer of an ended operation, by the step at which it linked and the item that it took.

@@ -1,4 +1,4 @@
--- How long the report is: at most 22 bytes and 100 for each operation, if numbers have the digits that an accepted job's have. Assumes
+-- How long the report is: at most 22 bytes and 102 for each operation, if numbers have the digits that an accepted job's have. Assumes
 -- nothing.
 use mathlib.Core.Path.{_≡_, refl, subst}
 use mathlib.Core.Logic.{_≢_}
@@ -10,7 +10,8 @@ use Rattle.basics.specs.Choice.{pick, same}
 use Rattle.basics.specs.Text.{text, decimal}
 use Rattle.basics.proofs.Choice.{pick-elim, same-unequal}
 use Rattle.basics.proofs.Text.{decimal-length}
-use Rattle.stage.specs.Centimetres.{centimetres, off, rounded}
+use Rattle.stage.specs.Printed.{stage-text}
+use Rattle.stage.proofs.Printing.{stage-length}
 use Rattle.job.specs.declared.Kind.{Kind}
 use Rattle.job.specs.declared.Kind.the-variants.{Queue, Stack}
 use Rattle.job.specs.Refusals.{most-operations, most-steps}
@@ -35,7 +36,7 @@ pub record Fits (j : Job) : Type 0 where
   pub operations : j .count ≤ most-operations
   pub steps : j .steps ≤ most-steps
   pub owners : (o : ℕ) → Operation j o → j .owner o < 256
-  pub values : (o : ℕ) → Operation j o → j .millimetres o < 65536
+  pub values : (o : ℕ) → Operation j o → j .field o < 65536
 
 -- numbers, each behind a space and of at most three digits
 spaced-length : (l : List ℕ) → ((x : ℕ) → List·Memᴰ x l → x < 1000) → length (spaced l) ≤ 4 * length l
@@ -54,19 +55,18 @@ module _ (j : Job) (fits : Fits j) where
   unfolding most-operations
   operation-length o op = decimal-length 2 o (omega (arith, fits .operations))
 
-  value-length : (o : ℕ) → Operation j o → length (decimal (centimetres (j .millimetres o))) ≤ 4
-  unfolding off
-  value-length o op = decimal-length 3 (centimetres (j .millimetres o)) (omega (arith, fits .values o op, rounded (j .millimetres o) .near))
+  value-length : (o : ℕ) → Operation j o → length (stage-text (j .field o)) ≤ 5
+  value-length o op = stage-length (j .field o) (fits .values o op)
 
   step-length : (s : ℕ) → s ≤ j .steps → length (decimal s) ≤ 5
   unfolding most-steps
   step-length s h = decimal-length 4 s (omega (arith, fits .steps))
 
-  action-length : (o : ℕ) → Operation j o → length (action-text j o) ≤ 9
+  action-length : (o : ℕ) → Operation j o → length (action-text j o) ≤ 10
   unfolding action-text text
-  action-length o op = pick-elim (λ l. length l ≤ 9) (j .is-put o) (text " put " ++ decimal (centimetres (j .millimetres o))) (text " take") (λ t. omega (arith, value-length o op)) (λ t. omega arith)
+  action-length o op = pick-elim (λ l. length l ≤ 10) (j .is-put o) (text " put " ++ stage-text (j .field o)) (text " take") (λ t. omega (arith, value-length o op)) (λ t. omega arith)
 
-  answer-length : (a : Answer) → ((n : ℕ) → a ≡ Answer.item n → Operation j n) → length (answer-text j a) ≤ 20
+  answer-length : (a : Answer) → ((n : ℕ) → a ≡ Answer.item n → Operation j n) → length (answer-text j a) ≤ 21
   unfolding answer-text text
   answer-length Answer.none h = omega arith
   answer-length Answer.done h = omega arith
@@ -95,23 +95,23 @@ module _ (j : Job) (fits : Fits j) where
         go line b e (Says.says-item {item = i} m) s = let is : i ≡ n = cc in subst (Operation j) is (handed-out (Operation j) s)
         go line b e Says.says-empty s = let z : _≡_ {A = ℕ} 0 1 = cc in absurd (omega arith)
 
-    progress-length : (o : ℕ) → Operation j o → length (progress-text j (j .steps) o) ≤ 43
+    progress-length : (o : ℕ) → Operation j o → length (progress-text j (j .steps) o) ≤ 44
     unfolding progress-text text
     progress-length o op =
-        pick-elim (λ l. length l ≤ 43) (same (first j (j .steps) o) 0) (text " first - last - waiting") (text " first " ++ decimal (first j (j .steps) o) ++ text " last " ++ end-text) (λ t. omega arith) (λ t. simp length-append (omega (arith, step-length (first j (j .steps) o) (first-le j (j .steps) o), end-length)))
+        pick-elim (λ l. length l ≤ 44) (same (first j (j .steps) o) 0) (text " first - last - waiting") (text " first " ++ decimal (first j (j .steps) o) ++ text " last " ++ end-text) (λ t. omega arith) (λ t. simp length-append (omega (arith, step-length (first j (j .steps) o) (first-le j (j .steps) o), end-length)))
       where
         end-text : List ℕ
         end-text = pick (same (last j (j .steps) o) 0) (text "- open") (decimal (last j (j .steps) o) ++ answer-text j (answer j (j .steps) o))
 
-        end-length : length end-text ≤ 25
-        end-length = pick-elim (λ l. length l ≤ 25) (same (last j (j .steps) o) 0) (text "- open") (decimal (last j (j .steps) o) ++ answer-text j (answer j (j .steps) o)) (λ t. omega arith) (λ t. simp length-append (omega (arith, step-length (last j (j .steps) o) (last-le j (j .steps) o), answer-length (answer j (j .steps) o) (λ n a. answer-operation o n op (same-unequal t) a))))
+        end-length : length end-text ≤ 26
+        end-length = pick-elim (λ l. length l ≤ 26) (same (last j (j .steps) o) 0) (text "- open") (decimal (last j (j .steps) o) ++ answer-text j (answer j (j .steps) o)) (λ t. omega arith) (λ t. simp length-append (omega (arith, step-length (last j (j .steps) o) (last-le j (j .steps) o), answer-length (answer j (j .steps) o) (λ n a. answer-operation o n op (same-unequal t) a))))
 
-    operation-line-length : (o : ℕ) → Operation j o → length (operation-line j (j .steps) o) ≤ 71
+    operation-line-length : (o : ℕ) → Operation j o → length (operation-line j (j .steps) o) ≤ 73
     unfolding operation-line text
     operation-line-length o op =
         simp length-append (omega (arith, operation-length o op, decimal-length 2 (j .owner o) (omega (arith, fits .owners o op)), action-length o op, progress-length o op))
 
-    operation-lines-length : (o : ℕ) → o ≤ j .count → length (operation-lines j (j .steps) o) ≤ 71 * o
+    operation-lines-length : (o : ℕ) → o ≤ j .count → length (operation-lines j (j .steps) o) ≤ 73 * o
     unfolding operation-lines
     operation-lines-length zero h = omega arith
     operation-lines-length (suc o) h = omega (arith, length-append (operation-lines j (j .steps) o) (operation-line j (j .steps) (suc o)), operation-lines-length o (omega arith), operation-line-length (suc o) (record { from-one = omega arith; to-count = h }))
@@ -135,11 +135,11 @@ module _ (j : Job) (fits : Fits j) where
     left-line-length =
         simp length-append (omega (arith, left-count j (j .steps) ex, decimal-length 2 (length (left j (j .steps))) (omega (arith, left-count j (j .steps) ex, fits .operations)), spaced-length (left j (j .steps)) (λ x m. omega (arith, fits .operations, left-operation j (j .steps) ex x m))))
 
-    pub report-length : length (report j) ≤ 22 + 100 * j .count
+    pub report-length : length (report j) ≤ 22 + 102 * j .count
     unfolding report
     report-length =
         simp length-append (omega (arith, object-length (j .object), operation-lines-length (j .count) (omega arith), record-lines-length (the-record j (j .steps)) (λ r m. m), members-count j (j .steps) ex, left-line-length))
 
 -- the report of any job with such numbers
-pub report-bounded : (j : Job) → Fits j → length (report j) ≤ 22 + 100 * most-operations
+pub report-bounded : (j : Job) → Fits j → length (report j) ≤ 22 + 102 * most-operations
 report-bounded j fits = omega (arith, report-length j fits (explained j (j .steps)), fits .operations)

@@ -5,7 +5,7 @@ use mathlib.Core.List.{List, [], _∷_, _++_}
 use lib.ListN.{length}
 use Rattle.basics.specs.Choice.{pick, same}
 use Rattle.basics.specs.Text.{text, decimal}
-use Rattle.stage.specs.Centimetres.{centimetres}
+use Rattle.stage.specs.Printed.{stage-text}
 use Rattle.job.specs.declared.Kind.{Kind}
 use Rattle.job.specs.declared.Kind.the-variants.{Queue, Stack}
 use Rattle.job.specs.Job.{Job}
@@ -22,13 +22,13 @@ object-line Stack = text "object stack\n"
 
 -- `put 50` or `take`; "put and value in whole cm"
 unfoldable pub action-text : Job → ℕ → List ℕ
-action-text j o = pick (j .is-put o) (text " put " ++ decimal (centimetres (j .millimetres o))) (text " take")
+action-text j o = pick (j .is-put o) (text " put " ++ stage-text (j .field o)) (text " take")
 
 -- `done`, `item 1 value 50` or "An empty take ends `empty`"
 unfoldable pub answer-text : Job → Answer → List ℕ
 answer-text j Answer.none = []
 answer-text j Answer.done = text " done"
-answer-text j (Answer.item n) = text " item " ++ decimal n ++ text " value " ++ decimal (centimetres (j .millimetres n))
+answer-text j (Answer.item n) = text " item " ++ decimal n ++ text " value " ++ stage-text (j .field n)
 answer-text j Answer.empty = text " empty"
 
 -- `first 1 last 4 done`; "An open one reads `last - open`, one not begun `first - last - waiting`."

@@ -1,6 +1,6 @@
 -- The report of an accepted file of bytes is at most 32,768 long, so its length fits its half of a packed answer. Assumes nothing.
 use mathlib.Core.Path.{_≡_, sym, ap, subst}
-use Prim.Native.Nat.{ℕ, zero, suc, _+_, _*_, _≤_, _<_}
+use Prim.Native.Nat.{ℕ, zero, suc, _*_, _≤_, _<_}
 use native.Mathlib.Omega.{arith}
 use mathlib.Core.List.{List}
 use lib.ListN.{length, getD}
@@ -34,6 +34,5 @@ pub report-short : (file : List ℕ) → file-refusal file ≡ 0 → Bytes file 
 unfolding least-report most-operations report-of job-in
 report-short file accepted b =
     let byte : (i : ℕ) → getD (filled file) i 0 < 256 = filled-byte file accepted b in
-    let short : length (report (job-of (filled file))) ≤ 22 + 100 * 256 = report-bounded (job-of (filled file)) (fits (filled-ready file accepted) byte) in
     let same-length : length (report (job-of (filled file))) ≡ length (report (job-of (stream-of file))) = ap (λ (j : Job). length (report j)) (filled-job file accepted) in
-    omega arith
+    omega (arith, report-bounded (job-of (filled file)) (fits (filled-ready file accepted) byte))

@@ -70,7 +70,7 @@ same-job s t e =
       count = 256 * e i 2 + e i 3;
       owner = λ o. e i (2 + 4 * o);
       is-put = λ o. same (e i (2 + 4 * o + 1)) 1;
-      millimetres = λ o. 256 * e i (2 + 4 * o + 2) + e i (suc (2 + 4 * o + 2));
+      field = λ o. 256 * e i (2 + 4 * o + 2) + e i (suc (2 + 4 * o + 2));
       steps = 256 * e i 4 + e i 5;
       entry = λ k. e i (5 + 4 * (256 * e i 2 + e i 3) + k);
     }

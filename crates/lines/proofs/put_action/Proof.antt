@@ -13,20 +13,17 @@ use Rattle.lines.proofs.put_action.Tie as tie
 is-put-requires : tie.Need-is-put-requires
 is-put-requires c κs = search needs
 
-slice-aggregate-put-labelled : tie.Need-slice-aggregate-put-labelled
-slice-aggregate-put-labelled c = search needs
+slice-aggregate-put-stage : tie.Need-slice-aggregate-put-stage
+slice-aggregate-put-stage c = search needs
 
-millimetres-requires : tie.Need-millimetres-requires
-millimetres-requires c κs = search needs
+field-requires : tie.Need-field-requires
+field-requires c κs = search needs
 
-centimetres-requires : tie.Need-centimetres-requires
-centimetres-requires c κs = search needs
-
-put-labelled-requires : tie.Need-put-labelled-requires
+put-stage-requires : tie.Need-put-stage-requires
 unfolding text
-put-labelled-requires c κs =
-    let start = c .before .before .before .before .before .before .before .before in
-    let same = action-of-put (job-of (start .args .stream .now)) (start .args .o .0) (c .before .before .before .before .before .is-put .ensures) (c .before .before .before .before .if1 .taken) (c .before .millimetres .ensures) (c .centimetres .ensures) in
+put-stage-requires c κs =
+    let start = c .before .before .before .before .before .before .before in
+    let same = action-of-put (job-of (start .args .stream .now)) (start .args .o .0) (c .before .before .before .before .is-put .ensures) (c .before .before .before .if1 .taken) (c .field .ensures) in
     omega (arith, ap length same)
 
 same-length : tie.Need-same-length
@@ -35,9 +32,9 @@ same-length c = search needs
 returns : tie.Need-returns
 unfolding text
 returns c =
-    let start = c .before .before .before .before .before .before .before .before .before .before .before in
-    let same = action-of-put (job-of (start .args .stream .now)) (start .args .o .0) (c .before .before .before .before .before .before .before .before .is-put .ensures) (c .before .before .before .before .before .before .before .if1 .taken) (c .before .before .before .before .millimetres .ensures) (c .before .before .before .centimetres .ensures) in
-    wrote-as same (c .before .before .put-labelled .ensures)
+    let start = c .before .before .before .before .before .before .before .before .before .before in
+    let same = action-of-put (job-of (start .args .stream .now)) (start .args .o .0) (c .before .before .before .before .before .before .before .is-put .ensures) (c .before .before .before .before .before .before .if1 .taken) (c .before .before .before .field .ensures) in
+    wrote-as same (c .before .before .put-stage .ensures)
 
 slice-aggregate-put-bytes : tie.Need-slice-aggregate-put-bytes
 slice-aggregate-put-bytes c = search needs
@@ -64,10 +61,9 @@ put-action-spec =
     tie.close
     (tie.spec
     is-put-requires
-    slice-aggregate-put-labelled
-    millimetres-requires
-    centimetres-requires
-    put-labelled-requires
+    slice-aggregate-put-stage
+    field-requires
+    put-stage-requires
     same-length
     returns
     slice-aggregate-put-bytes

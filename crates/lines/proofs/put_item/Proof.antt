@@ -17,22 +17,19 @@ put-labelled-requires : tie.Need-put-labelled-requires
 unfolding text
 put-labelled-requires c κs =
     let start = c .before .before .before .before in
-    omega (arith, simp length-append at (ap length (item-and-value (job-of (start .args .stream .now)) (start .args .item .0) refl refl)))
+    omega (arith, simp length-append at (ap length (item-and-value (job-of (start .args .stream .now)) (start .args .item .0) refl)))
 
-slice-aggregate-put-labelled-2 : tie.Need-slice-aggregate-put-labelled-2
-slice-aggregate-put-labelled-2 c = search needs
+slice-aggregate-put-stage : tie.Need-slice-aggregate-put-stage
+slice-aggregate-put-stage c = search needs
 
-millimetres-requires : tie.Need-millimetres-requires
-millimetres-requires c κs = search needs
+field-requires : tie.Need-field-requires
+field-requires c κs = search needs
 
-centimetres-requires : tie.Need-centimetres-requires
-centimetres-requires c κs = search needs
-
-put-labelled-requires-2 : tie.Need-put-labelled-requires-2
+put-stage-requires : tie.Need-put-stage-requires
 unfolding text
-put-labelled-requires-2 c κs =
-    let start = c .before .before .before .before .before .before .before .before .before .before .before in
-    omega (arith, simp length-append at (ap length (item-and-value (job-of (start .args .stream .now)) (start .args .item .0) (c .before .millimetres .ensures) (c .centimetres .ensures))))
+put-stage-requires c κs =
+    let start = c .before .before .before .before .before .before .before .before .before .before in
+    omega (arith, simp length-append at (ap length (item-and-value (job-of (start .args .stream .now)) (start .args .item .0) (c .field .ensures))))
 
 same-length : tie.Need-same-length
 same-length c = search needs
@@ -40,8 +37,8 @@ same-length c = search needs
 returns : tie.Need-returns
 unfolding text
 returns c =
-    let start = c .before .before .before .before .before .before .before .before .before .before .before .before .before .before in
-    wrote-both (item-and-value (job-of (start .args .stream .now)) (start .args .item .0) (c .before .before .before .before .millimetres .ensures) (c .before .before .before .centimetres .ensures)) (start .pre .1) (c .before .before .before .before .before .before .before .before .before .put-labelled .ensures) (c .before .before .put-labelled2 .ensures)
+    let start = c .before .before .before .before .before .before .before .before .before .before .before .before .before in
+    wrote-both (item-and-value (job-of (start .args .stream .now)) (start .args .item .0) (c .before .before .before .field .ensures)) (start .pre .1) (c .before .before .before .before .before .before .before .before .put-labelled .ensures) (c .before .before .put-stage .ensures)
 
 pub put-item-spec : {M : Type 1} → statement M
 put-item-spec =
@@ -49,9 +46,8 @@ put-item-spec =
     (tie.spec
     slice-aggregate-put-labelled
     put-labelled-requires
-    slice-aggregate-put-labelled-2
-    millimetres-requires
-    centimetres-requires
-    put-labelled-requires-2
+    slice-aggregate-put-stage
+    field-requires
+    put-stage-requires
     same-length
     returns)

@@ -1,9 +1,9 @@
--- `stage::centimetres` meets its contract. Assumes nothing.
+-- `stage::nearest` meets its contract. Assumes nothing.
 use native.Mathlib.Omega.{arith}
 use borrow.Author.Needs.{needs}
 use Rattle.stage.proofs.Rounding.{by-parity}
-use Rattle.stage.proofs.centimetres.Statement.{statement}
-use Rattle.stage.proofs.centimetres.Tie as tie
+use Rattle.stage.proofs.nearest.Statement.{statement}
+use Rattle.stage.proofs.nearest.Tie as tie
 
 add-result : tie.Need-add-result
 add-result c = search needs
@@ -23,5 +23,6 @@ cast-result-2 c = search needs
 returns-2 : tie.Need-returns-2
 returns-2 c = omega (arith, by-parity (c .before .args .mm))
 
-pub centimetres-spec : {M : Type 1} → statement M
-centimetres-spec = tie.close (tie.spec add-result cast-result returns add-result-2 cast-result-2 returns-2)
+pub nearest-spec : {M : Type 1} → statement M
+nearest-spec =
+    tie.close (tie.spec add-result cast-result returns add-result-2 cast-result-2 returns-2)

@@ -1,12 +1,12 @@
--- `lines::millimetres` meets its contract. Assumes nothing.
+-- `lines::field` meets its contract. Assumes nothing.
 use mathlib.Core.Path.{ap, _∙_}
 use Prim.Native.Nat.{ℕ, _+_}
 use borrow.Author.Needs.{needs}
 use Rattle.basics.specs.Words.{word}
 use Rattle.job.specs.Stream.{value}
 use Rattle.job.specs.Job.{job-of}
-use Rattle.lines.proofs.millimetres.Statement.{statement}
-use Rattle.lines.proofs.millimetres.Tie as tie
+use Rattle.lines.proofs.field.Statement.{statement}
+use Rattle.lines.proofs.field.Tie as tie
 
 record-at-requires : tie.Need-record-at-requires
 record-at-requires c κs = search needs
@@ -21,5 +21,5 @@ returns : tie.Need-returns
 unfolding job-of value
 returns c = c .word-at .ensures ∙ ap (λ (i : ℕ). word (c .before .before .before .args .stream .now) (i + 2)) (c .before .record-at .ensures)
 
-pub millimetres-spec : {M : Type 1} → statement M
-millimetres-spec = tie.close (tie.spec record-at-requires add-word-at word-at-requires returns)
+pub field-spec : {M : Type 1} → statement M
+field-spec = tie.close (tie.spec record-at-requires add-word-at word-at-requires returns)

@@ -1,0 +1,50 @@
+-- How far whole numbers are apart, by their signs. Assumes nothing.
+use mathlib.Core.Path.{_≡_, refl, sym, ap, _∙_}
+use Prim.Native.Nat.{ℕ, zero, suc, _+_, _-_, _*_, _≤_, _<_}
+use native.Mathlib.Omega.{arith}
+use mathlib.Core.Bool.{Bool, true, false, not, cond}
+use lib.Dec.{T, ltb, ltb→lt, nltb→le}
+use lib.IntN.{ℤ, pos, negsuc, negℤ, natAbs, _-ℤ_, _*ℤ_, negℤ-negℤ, negℤ-+ℤ}
+use Rattle.stage.specs.Centimetres.{off}
+
+-- two numbers that are not negative: one of the two differences is 0
+apart : (a b : ℕ) → natAbs (pos a -ℤ pos b) ≡ (a - b) + (b - a)
+apart a zero = omega arith
+apart a (suc b) = go (ltb a (suc b)) (λ t. ltb→lt a (suc b) t) (λ t. nltb→le a (suc b) t)
+  where
+    go : (t : Bool) → (T t → a < suc b) → (T (not t) → suc b ≤ a) → natAbs (cond t (negsuc (suc b - suc a)) (pos (a - suc b))) ≡ (a - suc b) + (suc b - a)
+    go true low high = omega (arith, low tt)
+    go false low high = omega (arith, high tt)
+
+-- two of which only the first may be negative
+across : (a b : ℕ) → natAbs (negℤ (pos a) -ℤ pos b) ≡ a + b
+across zero zero = omega arith
+across zero (suc b) = omega (arith, apart 0 (suc b))
+across (suc a) zero = omega (arith, apart 0 (suc a))
+across (suc a) (suc b) = omega arith
+
+pub off-above : (mm cm : ℕ) → off (pos mm) (pos cm) ≡ (10 * cm - mm) + (mm - 10 * cm)
+unfolding off
+off-above mm cm = apart (10 * cm) mm
+
+pub off-across : (mm n : ℕ) → 10 ≤ off (pos mm) (negsuc n)
+unfolding off
+off-across mm n = omega (arith, across (10 * suc n) mm)
+
+pub natAbs-negated : (z : ℤ) → natAbs (negℤ z) ≡ natAbs z
+natAbs-negated (pos zero) = refl
+natAbs-negated (pos (suc n)) = refl
+natAbs-negated (negsuc n) = refl
+
+ten-negated : (cm : ℤ) → pos 10 *ℤ negℤ cm ≡ negℤ (pos 10 *ℤ cm)
+ten-negated (pos zero) = refl
+ten-negated (pos (suc n)) = refl
+ten-negated (negsuc n) = sym (negℤ-negℤ (pos (10 * suc n)))
+
+-- below the datum as above it
+pub off-negated : (mm cm : ℤ) → off (negℤ mm) (negℤ cm) ≡ off mm cm
+unfolding off
+off-negated mm cm =
+    ap (λ (z : ℤ). natAbs (z -ℤ negℤ mm)) (ten-negated cm)
+    ∙ ap natAbs (sym (negℤ-+ℤ (pos 10 *ℤ cm) (negℤ mm)))
+    ∙ natAbs-negated (pos 10 *ℤ cm -ℤ mm)
