@@ -131,13 +131,17 @@ unfolding signed-decimal text
 signed-below zero low = absurd (let b : ⊥ = omega arith in b)
 signed-below (suc n) low = refl
 
--- so a numeral is the only one that says its number
+-- a numeral is what is printed of the number that it says
 pub only-numeral : {l : List ℕ} → Numeral l → l ≡ signed-decimal (says l)
 unfolding signed-decimal
 only-numeral nought = sym nought-decimal ∙ ap signed-decimal (sym says-nought)
 only-numeral (above p) = positive-of p ∙ ap signed-decimal (sym (says-positive p))
 only-numeral (below {l = l} p) =
     ap (λ (digits : List ℕ). 45 ∷ digits) (positive-of p) ∙ signed-below (digits-say 0 l) (says-more p) ∙ ap signed-decimal (sym (says-below l))
+
+-- so there is one text for one number
+pub one-text : {l m : List ℕ} → Numeral l → Numeral m → says l ≡ says m → l ≡ m
+one-text n k e = only-numeral n ∙ ap signed-decimal e ∙ sym (only-numeral k)
 
 -- what a report prints of a stage says its whole centimetres
 pub stage-back : (field : ℕ) → says (stage-text field) ≡ centimetres (millimetres field)
