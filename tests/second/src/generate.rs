@@ -26,7 +26,7 @@ impl Draft {
     }
 }
 
-pub fn put(process: u8, value: u16) -> Record {
+pub fn put(process: u8, value: i16) -> Record {
     let [high, low] = value.to_be_bytes();
     [process, 1, high, low]
 }
@@ -116,7 +116,7 @@ fn records(random: &mut Random, style: Style, processes: u8, count: usize) -> Ve
         _ => random.between(1, 7),
     };
     let owners = owners(random, style, processes);
-    let same_value = random.chance(3).then(|| random.word() as u16);
+    let same_value = random.chance(3).then(|| random.word() as i16);
     let roles = random.chance(3);
     let record = |_| {
         let owner = *random.pick(&owners);
@@ -139,10 +139,13 @@ fn owners(random: &mut Random, style: Style, processes: u8) -> Vec<u8> {
     owners
 }
 
-fn value(random: &mut Random) -> u16 {
-    match random.below(4) {
-        0 => *random.pick(&[0, 4, 5, 9, 10, 15, 94, 95, 504, 505, 515, 65_534, 65_535]),
-        1 => (random.below(6_553) * 10 + 5) as u16,
-        _ => random.word() as u16,
-    }
+/// Stages around the datum, at both ends of the range, half way between two centimetres, and any.
+fn value(random: &mut Random) -> i16 {
+    const SHARP: [i16; 18] = [0, 1, 4, 5, 6, 9, 10, 15, 25, 94, 95, 504, 505, 515, 32_765, 32_766, i16::MAX, i16::MIN];
+    let value = match random.below(4) {
+        0 => *random.pick(&SHARP),
+        1 => (random.below(3_277) * 10 + 5) as i16,
+        _ => random.word() as i16,
+    };
+    if random.chance(2) { value } else { value.wrapping_neg() }
 }

@@ -32,8 +32,9 @@ pub fn action(record: &Record) -> Action {
     if record[1] == 1 { Action::Put } else { Action::Take }
 }
 
-pub fn value(record: &Record) -> u16 {
-    u16::from_be_bytes([record[2], record[3]])
+/// In mm: signed, in two's complement.
+pub fn value(record: &Record) -> i32 {
+    i32::from(i16::from_be_bytes([record[2], record[3]]))
 }
 
 /// The first six bytes, all in range.

@@ -49,7 +49,8 @@ fn list(text: &str) -> impl Iterator<Item = &str> {
 
 fn record(text: &str) -> Option<Record> {
     match text.split(' ').collect::<Vec<_>>()[..] {
-        ["put", process, value] => Some(put(process.parse().ok()?, value.parse().ok()?)),
+        ["put", process, field] => Some(put(process.parse().ok()?, field.parse::<u16>().ok()? as i16)),
+        ["put", process, "below", depth] => Some(put(process.parse().ok()?, i16::try_from(-depth.parse::<i32>().ok()?).ok()?)),
         ["take", process] => Some(take(process.parse().ok()?)),
         _ => None,
     }

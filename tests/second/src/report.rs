@@ -32,13 +32,13 @@ fn report<O: Object>(job: &Job, machine: &Machine<O>, memory: &mut [u8]) -> usiz
     text.length()
 }
 
-/// A value in whole cm: the nearest, and half way between two the even one.
-fn centimetres(record: &Record) -> u16 {
+/// A value in whole cm: the nearest, and half way between two the even one, above zero and below.
+fn centimetres(record: &Record) -> i32 {
     let value = job::value(record);
-    let below = value / 10;
-    match value % 10 {
+    let below = value.div_euclid(10);
+    match value.rem_euclid(10) {
         0..5 => below,
-        5 => below + below % 2,
+        5 => below + below.rem_euclid(2),
         _ => below + 1,
     }
 }
@@ -56,7 +56,7 @@ fn operation(text: &mut Text, number: usize, records: &[Record], journal: &Journ
     match job::action(own) {
         Action::Put => {
             text.words(" put ");
-            text.number(centimetres(own));
+            text.signed(centimetres(own));
         }
         Action::Take => text.words(" take"),
     }
@@ -81,7 +81,7 @@ fn answer(text: &mut Text, answer: Answer, records: &[Record]) {
             text.words(" item ");
             text.number(item);
             text.words(" value ");
-            text.number(centimetres(&records[usize::from(item) - 1]));
+            text.signed(centimetres(&records[usize::from(item) - 1]));
             text.words("\n");
         }
     }

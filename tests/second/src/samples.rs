@@ -59,18 +59,47 @@ pub fn halves() -> Trace {
         "halves of a centimetre",
         1,
         1,
-        &[put(0, 504), put(0, 505), put(0, 515), put(0, 65_535)],
-        &[0; 16],
+        &[put(0, 504), put(0, 505), put(0, 515)],
+        &[0; 12],
         "object queue\n\
          op 1 process 0 put 50 first 1 last 4 done\n\
          op 2 process 0 put 50 first 5 last 8 done\n\
          op 3 process 0 put 52 first 9 last 12 done\n\
-         op 4 process 0 put 6554 first 13 last 16 done\n\
+         at 3 put 1\n\
+         at 7 put 2\n\
+         at 11 put 3\n\
+         left 3 1 2 3\n",
+    )
+}
+
+/// Stages below the datum, among them halves, what prints 0, and both ends of the range; the second of them is taken.
+pub fn below_datum() -> Trace {
+    trace(
+        "stages below the datum",
+        1,
+        2,
+        &[put(0, -5), put(0, -15), put(0, -25), put(0, -1), put(0, -32_768), put(0, -32_765), put(0, 32_767), take(1), take(1)],
+        &[[0; 28].as_slice(), &[1; 8]].concat(),
+        "object queue\n\
+         op 1 process 0 put 0 first 1 last 4 done\n\
+         op 2 process 0 put -2 first 5 last 8 done\n\
+         op 3 process 0 put -2 first 9 last 12 done\n\
+         op 4 process 0 put 0 first 13 last 16 done\n\
+         op 5 process 0 put -3277 first 17 last 20 done\n\
+         op 6 process 0 put -3276 first 21 last 24 done\n\
+         op 7 process 0 put 3277 first 25 last 28 done\n\
+         op 8 process 1 take first 29 last 32 item 1 value 0\n\
+         op 9 process 1 take first 33 last 36 item 2 value -2\n\
          at 3 put 1\n\
          at 7 put 2\n\
          at 11 put 3\n\
          at 15 put 4\n\
-         left 4 1 2 3 4\n",
+         at 19 put 5\n\
+         at 23 put 6\n\
+         at 27 put 7\n\
+         at 32 take 1 by 8\n\
+         at 36 take 2 by 9\n\
+         left 5 3 4 5 6 7\n",
     )
 }
 
@@ -88,9 +117,9 @@ fn short_traces() -> Vec<Trace> {
             "one open put",
             1,
             1,
-            &[put(0, 65_535)],
+            &[put(0, -32_768)],
             &[0, 0, 0],
-            "object queue\nop 1 process 0 put 6554 first 1 last - open\nat 3 put 1\nleft 1 1\n",
+            "object queue\nop 1 process 0 put -3277 first 1 last - open\nat 3 put 1\nleft 1 1\n",
         ),
         trace(
             "no steps",
@@ -144,7 +173,7 @@ fn stack_traces() -> Vec<Trace> {
 
 /// All traces of the papers.
 pub fn traces() -> Vec<Trace> {
-    let mut traces = vec![listing(), fifth(), halves()];
+    let mut traces = vec![listing(), fifth(), halves(), below_datum()];
     traces.extend(short_traces());
     traces.extend(stack_traces());
     traces
@@ -156,6 +185,7 @@ pub fn all() -> Vec<(&'static str, Draft)> {
     samples.extend(alone());
     samples.extend(met());
     samples.push(("halves", halves().draft));
+    samples.push(("below-datum", below_datum().draft));
     samples.push(("smallest", smallest()));
     samples
 }

@@ -30,6 +30,15 @@ impl<'a> Text<'a> {
         }
         self.length = end;
     }
+
+    /// A number that may be negative. One in whole cm has at most four digits.
+    #[inline]
+    pub fn signed(&mut self, number: i32) {
+        if number < 0 {
+            self.words("-");
+        }
+        self.number(number.unsigned_abs() as u16);
+    }
 }
 
 fn digits(number: u16) -> usize {

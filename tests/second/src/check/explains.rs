@@ -31,12 +31,14 @@ pub fn operations(job: &Job, facts: &Facts, report: &Report) -> Result<(), Strin
 }
 
 /// Of the centimetres around a value the one that is less than half a cm off, or half off and even.
-fn centimetres(record: &Record) -> u16 {
+fn centimetres(record: &Record) -> i32 {
     let value = job::value(record);
-    let below = value / 10;
-    let off = value - 10 * below;
-    let down = off < 5 || off == 5 && below.is_multiple_of(2);
-    if down { below } else { below + 1 }
+    let fits = |&cm: &i32| {
+        let off = (value - 10 * cm).abs();
+        off < 5 || off == 5 && cm % 2 == 0
+    };
+    let mut around = value / 10 - 1..=value / 10 + 1;
+    around.find(fits).expect("one of three in a row is as near")
 }
 
 fn ending(job: &Job, own: &Operation) -> Ending {

@@ -5,7 +5,7 @@ use std::str::SplitWhitespace;
 #[derive(PartialEq, Eq, Debug)]
 pub enum Ending {
     Done,
-    Item(u16, u16),
+    Item(u16, i32),
     Empty,
     Open,
     Waiting,
@@ -16,7 +16,7 @@ pub struct Operation {
     pub number: u16,
     pub process: u8,
     /// The centimetres of a put; none for a take.
-    pub put: Option<u16>,
+    pub put: Option<i32>,
     pub first: Option<u16>,
     pub last: Option<u16>,
     pub ending: Ending,
@@ -79,6 +79,13 @@ fn number(words: &mut SplitWhitespace) -> Option<u16> {
     words.next()?.parse().ok()
 }
 
+/// A value in whole cm: it must be the one text of its number, so no `-0`, no `+` and no leading zero.
+fn value(words: &mut SplitWhitespace) -> Option<i32> {
+    let word = words.next()?;
+    let value: i32 = word.parse().ok()?;
+    (value.to_string() == word).then_some(value)
+}
+
 fn numbers(words: &mut SplitWhitespace) -> Option<Vec<u16>> {
     words.map(|word| word.parse().ok()).collect()
 }
@@ -100,7 +107,7 @@ fn operation(words: &mut SplitWhitespace) -> Option<Operation> {
     expect(words, "process")?;
     let process = number(words)? as u8;
     let put = match words.next()? {
-        "put" => Some(number(words)?),
+        "put" => Some(value(words)?),
         "take" => None,
         _ => return None,
     };
@@ -121,7 +128,7 @@ fn ending(words: &mut SplitWhitespace) -> Option<Ending> {
         "item" => {
             let item = number(words)?;
             expect(words, "value")?;
-            Ending::Item(item, number(words)?)
+            Ending::Item(item, value(words)?)
         }
         _ => return None,
     })

@@ -11,7 +11,7 @@ pub fn schedules(bench: &mut Bench) -> Result<usize, String> {
         (2, 13, vec![put(0, 15), take(1), put(0, 35), take(1)]),
         (2, 12, vec![put(0, 15), put(1, 15), take(0), take(1)]),
         (3, 9, vec![put(0, 15), take(1), take(2)]),
-        (3, 9, vec![put(0, 15), put(1, 35), take(2)]),
+        (3, 9, vec![put(0, 15), put(1, -35), take(2)]),
     ];
     let mut count = 0;
     for kind in [1, 2] {

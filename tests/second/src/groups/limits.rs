@@ -6,7 +6,7 @@ use crate::file::{FILE_LIMIT, WORK, sealed};
 use crate::generate::{Draft, put, take};
 
 fn draft(processes: u8, operations: usize, steps: usize) -> Draft {
-    let record = |i: usize| if i.is_multiple_of(2) { put(0, i as u16) } else { take(0) };
+    let record = |i: usize| if i.is_multiple_of(2) { put(0, i as i16) } else { take(0) };
     Draft { kind: 1, processes, records: (0..operations).map(record).collect(), schedule: vec![0; steps] }
 }
 

@@ -10,7 +10,7 @@ const PUTS: usize = 128;
 const STEPS: usize = 4;
 
 pub fn every(bench: &mut Bench) -> Result<usize, String> {
-    let values: Vec<u16> = (0..=u16::MAX).collect();
+    let values: Vec<i16> = (i16::MIN..=i16::MAX).collect();
     for part in values.chunks(PUTS) {
         let puts = part.iter().map(|&value| put(0, value));
         let records: Vec<_> = puts.chain([take(0); PUTS]).collect();

@@ -44,13 +44,13 @@ fn record(i: usize, random: &mut Random) -> Record {
 }
 
 /// The stage in mm when operation `i` falls due: base flow, waves, and a crest that comes later downstream and falls slower than it rose.
-fn stage(hub: u8, i: usize, random: &mut Random) -> u16 {
+fn stage(hub: u8, i: usize, random: &mut Random) -> i16 {
     let hub = usize::from(hub);
     let crest = 30 + 30 * hub;
     let width: usize = if i < crest { 30 } else { 70 };
     let height = 3_400 - 250 * hub;
     let rise = height * width.pow(2) / (width.pow(2) + i.abs_diff(crest).pow(2));
-    (900 + 140 * hub + rise + random.below(25)) as u16
+    (900 + 140 * hub + rise + random.below(25)) as i16
 }
 
 fn schedule(records: &[Record], random: &mut Random) -> Vec<u8> {

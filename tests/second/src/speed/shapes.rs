@@ -22,7 +22,7 @@ fn job(kind: u8, operations: usize, steps: usize, order: &Order, seed: u64) -> D
     let mut random = Random::new(seed);
     let record = |i: usize| {
         let process = random.below(8) as u8;
-        if random.chance(2) { put(process, 900 + 13 * i as u16) } else { take(process) }
+        if random.chance(2) { put(process, 900 + 13 * i as i16) } else { take(process) }
     };
     let records = (0..operations).map(record).collect();
     let mut draft = Draft { kind, processes: 8, records, schedule: vec![] };
