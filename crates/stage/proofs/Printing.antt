@@ -98,7 +98,7 @@ pub stage-length : (field : ℕ) → field < 65536 → length (stage-text field)
 unfolding stage-text
 stage-length field high = signed-length 3 (centimetres (millimetres field)) (omega (arith, most-centimetres field high))
 
--- a field below 32,768 prints as it did when all fields were unsigned
+-- what is not below the datum prints as request 1 alone has it
 pub above-as-before : (field : ℕ) → field < 32768 → stage-text field ≡ decimal (nearest field)
 unfolding stage-text signed-decimal centimetres
 above-as-before field h = ap (λ (z : ℤ). signed-decimal (centimetres z)) (above-datum field h)

@@ -47,6 +47,7 @@ fn list(text: &str) -> impl Iterator<Item = &str> {
     text.split_terminator('∷').map(str::trim)
 }
 
+/// `put P FIELD`, `put P below MM` or `take P`.
 fn record(text: &str) -> Option<Record> {
     match text.split(' ').collect::<Vec<_>>()[..] {
         ["put", process, field] => Some(put(process.parse().ok()?, field.parse::<u16>().ok()? as i16)),

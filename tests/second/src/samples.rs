@@ -72,7 +72,7 @@ pub fn halves() -> Trace {
     )
 }
 
-/// Stages below the datum, among them halves, what prints 0, and both ends of the range; the second of them is taken.
+/// Stages below the datum: halves, what prints 0, and the lowest; and the highest of all. The first two are taken.
 pub fn below_datum() -> Trace {
     trace(
         "stages below the datum",
