@@ -1,5 +1,5 @@
--- How far whole numbers are apart, by their signs. Assumes nothing.
-use mathlib.Core.Path.{_≡_, refl, sym, ap, _∙_}
+-- Differences of whole numbers, and how far they are apart, by order and sign. Assumes nothing.
+use mathlib.Core.Path.{_≡_, refl, sym, ap, subst, _∙_}
 use Prim.Native.Nat.{ℕ, zero, suc, _+_, _-_, _*_, _≤_, _<_}
 use native.Mathlib.Omega.{arith}
 use mathlib.Core.Bool.{Bool, true, false, not, cond}
@@ -7,14 +7,18 @@ use lib.Dec.{T, ltb, ltb→lt, nltb→le}
 use lib.IntN.{ℤ, pos, negsuc, negℤ, natAbs, _-ℤ_, _*ℤ_, negℤ-negℤ, negℤ-+ℤ}
 use Rattle.stage.specs.Centimetres.{off}
 
+-- what holds of a difference in either order of its numbers holds of it
+pub by-order {κ} : (P : ℤ → Type κ) (a b : ℕ) → (a < b → P (negsuc (b - suc a))) → (b ≤ a → P (pos (a - b))) → P (pos a -ℤ pos b)
+by-order P a zero f g = subst (λ (n : ℕ). P (pos n)) (let e : a - 0 ≡ a + 0 = omega arith in e) (g (omega arith))
+by-order P a (suc b) f g = go (ltb a (suc b)) (λ t. f (ltb→lt a (suc b) t)) (λ t. g (nltb→le a (suc b) t))
+  where
+    go : (t : Bool) → (T t → P (negsuc (suc b - suc a))) → (T (not t) → P (pos (a - suc b))) → P (cond t (negsuc (suc b - suc a)) (pos (a - suc b)))
+    go true low high = low tt
+    go false low high = high tt
+
 -- two numbers that are not negative: one of the two differences is 0
 apart : (a b : ℕ) → natAbs (pos a -ℤ pos b) ≡ (a - b) + (b - a)
-apart a zero = omega arith
-apart a (suc b) = go (ltb a (suc b)) (λ t. ltb→lt a (suc b) t) (λ t. nltb→le a (suc b) t)
-  where
-    go : (t : Bool) → (T t → a < suc b) → (T (not t) → suc b ≤ a) → natAbs (cond t (negsuc (suc b - suc a)) (pos (a - suc b))) ≡ (a - suc b) + (suc b - a)
-    go true low high = omega (arith, low tt)
-    go false low high = omega (arith, high tt)
+apart a b = by-order (λ z. natAbs z ≡ (a - b) + (b - a)) a b (λ h. omega arith) (λ h. omega arith)
 
 -- two of which only the first may be negative
 across : (a b : ℕ) → natAbs (negℤ (pos a) -ℤ pos b) ≡ a + b

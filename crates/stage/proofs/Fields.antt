@@ -3,8 +3,7 @@ use mathlib.Core.Path.{_≡_, refl, sym, ap, subst, _∙_}
 use mathlib.Core.Logic.{inl, inr, ⊎-elim}
 use Prim.Native.Nat.{ℕ, suc, _-_, _≤_, _<_}
 use native.Mathlib.Omega.{arith}
-use mathlib.Core.Bool.{Bool, true, false, not, cond}
-use lib.Dec.{T, ltb, nltb→le, leb→le, le→leb}
+use lib.Dec.{leb→le, le→leb}
 use lib.IntN.{ℤ, pos, negsuc, _-ℤ_}
 use lib.Signed.{_≤ℤ_}
 use mir.Syntax.{w16}
@@ -13,14 +12,14 @@ use mir.ValLaws.{toZ-pos, toZ-neg}
 use Rattle.basics.specs.Choice.{less}
 use Rattle.basics.proofs.Choice.{both, pick-then, pick-else, less-lt, less-le, lt-less, le-less}
 use Rattle.stage.specs.Millimetres.{millimetres, Signed}
+use Rattle.stage.proofs.Distances.{by-order}
 
 -- 65,536 less than a field
 less-65536 : (field : ℕ) → field < 65536 → pos field -ℤ pos 65536 ≡ negsuc (65535 - field)
-less-65536 field h = go (ltb field 65536) (λ t. nltb→le field 65536 t)
-  where
-    go : (t : Bool) → (T (not t) → 65536 ≤ field) → cond t (negsuc (65536 - suc field)) (pos (field - 65536)) ≡ negsuc (65535 - field)
-    go true past = ap negsuc (let e : 65536 - suc field ≡ 65535 - field = omega arith in e)
-    go false past = absurd (let b : ⊥ = omega (arith, past tt) in b)
+less-65536 field h =
+    by-order (λ z. z ≡ negsuc (65535 - field)) field 65536
+    (λ l. ap negsuc (let e : 65536 - suc field ≡ 65535 - field = omega arith in e))
+    (λ past. absurd (let b : ⊥ = omega arith in b))
 
 pub below-datum : (field : ℕ) → 32768 ≤ field → field < 65536 → millimetres field ≡ negsuc (65535 - field)
 unfolding millimetres
