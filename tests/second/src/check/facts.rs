@@ -78,14 +78,17 @@ impl Memory {
     fn take(&mut self, event: &Event, read: Read) -> bool {
         let below = self.next[usize::from(read.top)];
         let found = *self.cell(event.cell);
-        let wrote = listing::set(event, read, below).and_then(|(from, to)| (found == from).then_some(to));
+        let aim = listing::set(event, read, below);
+        let wrote = aim.and_then(|(from, to)| (found == from).then_some(to));
+        // a mark is raised by a plain write
+        let aimed = event.row == Row::R3 || event.aim == aim;
         if let Some(value) = wrote {
             *self.cell(event.cell) = value;
             if event.row == Row::P3 {
                 *self.cell(Cell::Next(event.operation)) = read.top;
             }
         }
-        event.cell == listing::cell(event.row, read) && event.held == found && event.wrote == wrote
+        event.cell == listing::cell(event.row, read) && event.held == found && event.wrote == wrote && aimed
     }
 }
 

@@ -18,7 +18,8 @@ pub fn jobs(kind: u8, operations: usize, steps: usize, order: &Order) -> Vec<Dra
     (FIRST_SEED..FIRST_SEED + ROTATION).map(|seed| job(kind, operations, steps, order, seed)).collect()
 }
 
-fn job(kind: u8, operations: usize, steps: usize, order: &Order, seed: u64) -> Draft {
+/// The job of a seed.
+pub fn job(kind: u8, operations: usize, steps: usize, order: &Order, seed: u64) -> Draft {
     let mut random = Random::new(seed);
     let record = |i: usize| {
         let process = random.below(8) as u8;

@@ -29,6 +29,8 @@ pub trait Watch {
     fn step(&mut self, step: u16, process: u8, acting: Option<(u16, Row)>);
     /// The step's one access: what the cell held, and what was written, if anything.
     fn access(&mut self, cell: Cell, held: u16, wrote: Option<u16>);
+    /// That access is a set, from one value to another.
+    fn aim(&mut self, from: u16, to: u16);
     /// The step ended its operation.
     fn end(&mut self, answer: Answer);
 }
@@ -38,6 +40,7 @@ pub struct Nobody;
 impl Watch for Nobody {
     fn step(&mut self, _: u16, _: u8, _: Option<(u16, Row)>) {}
     fn access(&mut self, _: Cell, _: u16, _: Option<u16>) {}
+    fn aim(&mut self, _: u16, _: u16) {}
     fn end(&mut self, _: Answer) {}
 }
 
@@ -51,6 +54,7 @@ pub fn read(watch: &mut impl Watch, cell: Cell, held: u16) -> u16 {
 pub fn set(watch: &mut impl Watch, cell: Cell, held: &mut u16, from: u16, to: u16) -> bool {
     let changed = *held == from;
     watch.access(cell, *held, changed.then_some(to));
+    watch.aim(from, to);
     if changed {
         *held = to;
     }
@@ -67,6 +71,8 @@ pub struct Event {
     pub cell: Cell,
     pub held: u16,
     pub wrote: Option<u16>,
+    /// Of a set: from, to.
+    pub aim: Option<(u16, u16)>,
     pub answer: Option<Answer>,
 }
 
@@ -81,14 +87,18 @@ impl Watch for Log {
     fn step(&mut self, step: u16, process: u8, acting: Option<(u16, Row)>) {
         self.steps = step;
         if let Some((operation, row)) = acting {
-            let (cell, held, wrote, answer) = (Cell::Head, 0, None, None);
-            self.events.push(Event { step, process, operation, row, cell, held, wrote, answer });
+            let (cell, held, wrote, aim, answer) = (Cell::Head, 0, None, None, None);
+            self.events.push(Event { step, process, operation, row, cell, held, wrote, aim, answer });
         }
     }
 
     fn access(&mut self, cell: Cell, held: u16, wrote: Option<u16>) {
         let event = self.events.last_mut().expect("an access without a step");
         (event.cell, event.held, event.wrote) = (cell, held, wrote);
+    }
+
+    fn aim(&mut self, from: u16, to: u16) {
+        self.events.last_mut().expect("a set without a step").aim = Some((from, to));
     }
 
     fn end(&mut self, answer: Answer) {

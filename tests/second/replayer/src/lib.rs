@@ -1,0 +1,12 @@
+//! A second replayer, written from documents 01 and 02 alone. It shares nothing with the library: the tests compare the two, and
+//! the command `bench steps` shows its steps where they agree.
+
+pub mod calls;
+pub mod file;
+pub mod job;
+pub mod machine;
+pub mod queue;
+pub mod report;
+pub mod stack;
+pub mod text;
+pub mod watch;
