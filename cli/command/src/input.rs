@@ -1,0 +1,78 @@
+//! Reading what a command is given. `-` is standard input.
+
+use crate::names::shown;
+use crate::status::{Failure, say};
+use pigwazet::Refusal;
+use std::fs::File;
+use std::io::{self, Read};
+use std::path::Path;
+
+/// An endless job is cut far past the longest one, and is refused for its length all the same.
+pub const MOST: u64 = 65_536;
+
+pub fn is_standard(path: &Path) -> bool {
+    path.as_os_str() == "-"
+}
+
+/// How messages name an input.
+pub fn name(path: &Path) -> String {
+    if is_standard(path) { "standard input".to_string() } else { shown(path) }
+}
+
+/// Fills `bytes` from a file, up to a limit.
+pub fn fill(path: &Path, most: u64, bytes: &mut Vec<u8>) -> io::Result<()> {
+    bytes.clear();
+    File::open(path)?.take(most).read_to_end(bytes).map(drop)
+}
+
+/// The same from standard input.
+pub fn fill_standard(most: u64, bytes: &mut Vec<u8>) -> io::Result<()> {
+    bytes.clear();
+    io::stdin().lock().take(most).read_to_end(bytes).map(drop)
+}
+
+/// A file or standard input, up to a limit.
+fn whole(path: &Path, most: u64) -> Result<Vec<u8>, Failure> {
+    let mut bytes = vec![];
+    let read = if is_standard(path) { fill_standard(most, &mut bytes) } else { fill(path, most, &mut bytes) };
+    read.map_err(|why| Failure(format!("{} could not be read: {why}", name(path))))?;
+    Ok(bytes)
+}
+
+/// A job file, whatever it holds.
+pub fn job(path: &Path) -> Result<Vec<u8>, Failure> {
+    whole(path, MOST)
+}
+
+/// A file that must be read to its end: one that is longer than `most` MiB is an error.
+pub fn all(path: &Path, most: u64) -> Result<Vec<u8>, Failure> {
+    let bytes = whole(path, (most << 20) + 1)?;
+    if bytes.len() as u64 > most << 20 {
+        return Err(Failure(format!("{} is longer than {most} MiB.", name(path))));
+    }
+    Ok(bytes)
+}
+
+/// A text.
+pub fn text(path: &Path) -> Result<String, Failure> {
+    let bytes = all(path, 16)?;
+    let other =
+        || Failure(format!("{} is no text. If it is a job file, it is made already: `bench text` prints it.", name(path)));
+    if looks_like_text(&bytes) { String::from_utf8(bytes).map_err(|_| other()) } else { Err(other()) }
+}
+
+/// A job file may be valid as text, but has zeros.
+pub fn looks_like_text(bytes: &[u8]) -> bool {
+    std::str::from_utf8(bytes).is_ok() && !bytes.contains(&0)
+}
+
+/// What a call makes of a job file; none where it refuses it, which is then said.
+pub fn accepted<T>(path: &Path, call: impl FnOnce(&[u8]) -> Result<T, Refusal>) -> Result<Option<T>, Failure> {
+    let answer = call(&job(path)?);
+    Ok(answer.map_err(|refusal| refused(path, refusal)).ok())
+}
+
+/// Says that a job file is refused, where a command needed an accepted one.
+pub fn refused(path: &Path, refusal: Refusal) {
+    say(&format!("{}: {refusal}. `bench why` says more.", name(path)));
+}

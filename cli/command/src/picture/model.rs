@@ -1,0 +1,113 @@
+//! What the page's script draws from: the report taken apart, as JSON.
+
+use crate::reading;
+use pigwazet::report::{Action, Effect, Ending, Line, Operation, Run};
+
+pub fn json(name: &str, run: &Run) -> String {
+    let processes = run.operations.iter().map(|operation| operation.process + 1).max().unwrap_or_default();
+    let ends = run.operations.iter().flat_map(|operation| operation.first.max(operation.last));
+    let steps = ends.chain(run.record.iter().map(|line| line.at)).max().unwrap_or_default();
+    let fates = reading::readings(run).filter_map(|(item, _)| {
+        let lines = reading::fate(run, item)?.iter().map(|line| string(line)).collect();
+        Some((item.to_string(), array(lines)))
+    });
+    object([
+        ("name", string(name)),
+        ("object", string(run.kind.name())),
+        ("processes", processes.to_string()),
+        ("steps", steps.to_string()),
+        ("operations", array(run.operations.iter().map(operation).collect())),
+        ("record", array(run.record.iter().map(line).collect())),
+        ("left", numbers(&run.left)),
+        ("leftLine", string(run.left_line)),
+        ("fates", object(fates)),
+    ])
+}
+
+fn operation(operation: &Operation) -> String {
+    let mut fields = vec![("number", operation.number.to_string()), ("process", operation.process.to_string())];
+    match operation.action {
+        Action::Put(value) => fields.extend([("action", string("put")), ("value", value.to_string())]),
+        Action::Take => fields.push(("action", string("take"))),
+    }
+    fields.extend(operation.first.map(|step| ("first", step.to_string())));
+    fields.extend(operation.last.map(|step| ("last", step.to_string())));
+    let ending = match operation.ending {
+        Ending::Done => "done",
+        Ending::Empty => "empty",
+        Ending::Open => "open",
+        Ending::Waiting => "waiting",
+        Ending::Item(item, value) => {
+            fields.extend([("item", item.to_string()), ("value", value.to_string())]);
+            "item"
+        }
+    };
+    fields.extend([("ending", string(ending)), ("line", string(operation.line))]);
+    object(fields)
+}
+
+fn line(line: &Line) -> String {
+    let (effect, item) = match line.effect {
+        Effect::Put(item) => ("put", Some(item)),
+        Effect::Take(item, _) => ("take", Some(item)),
+        Effect::Empty(_) => ("empty", None),
+    };
+    let mut fields = vec![("at", line.at.to_string()), ("effect", string(effect))];
+    fields.extend(item.map(|item| ("item", item.to_string())));
+    fields.extend([("by", numbers(line.members())), ("line", string(line.line))]);
+    object(fields)
+}
+
+fn object<K: AsRef<str>>(fields: impl IntoIterator<Item = (K, String)>) -> String {
+    let fields: Vec<String> = fields.into_iter().map(|(key, value)| format!("{}:{value}", string(key.as_ref()))).collect();
+    format!("{{{}}}", fields.join(","))
+}
+
+fn array(values: Vec<String>) -> String {
+    format!("[{}]", values.join(","))
+}
+
+fn numbers(numbers: &[u16]) -> String {
+    array(numbers.iter().map(u16::to_string).collect())
+}
+
+/// A string; `<` is escaped too, since a page's script ends where a tag says so.
+fn string(text: &str) -> String {
+    let mut quoted = String::from("\"");
+    for char in text.chars() {
+        match char {
+            '"' | '\\' => quoted.extend(['\\', char]),
+            '<' => quoted += "\\u003c",
+            _ if char.is_control() || char == '\u{2028}' || char == '\u{2029}' => quoted += &format!("\\u{:04x}", char as u32),
+            _ => quoted.push(char),
+        }
+    }
+    quoted.push('"');
+    quoted
+}
+
+#[cfg(test)]
+mod tests {
+    use super::*;
+
+    #[test]
+    fn strings_are_escaped() {
+        assert_eq!(string("a\"b\\c</script>\n"), "\"a\\\"b\\\\c\\u003c/script>\\u000a\"");
+    }
+
+    #[test]
+    fn a_small_run_as_json() {
+        let run = Run::of(
+            "object queue\nop 1 process 1 put -2 first 1 last - open\nop 2 process 0 take first - last - waiting\nleft 0\n",
+        );
+        let json = json("a.job", &run.unwrap());
+        let expected = concat!(
+            r#"{"name":"a.job","object":"queue","processes":2,"steps":1,"operations":["#,
+            r#"{"number":1,"process":1,"action":"put","value":-2,"first":1,"ending":"open","line":"op 1 process 1 put -2 first 1 last - open"},"#,
+            r#"{"number":2,"process":0,"action":"take","ending":"waiting","line":"op 2 process 0 take first - last - waiting"}],"#,
+            r#""record":[],"left":[],"leftLine":"left 0","fates":{"1":["#,
+            r#""Reading 1: -2 cm, put by operation 1 of process 1 (open since step 1).","It is not in the record: it never came into the queue."]}}"#
+        );
+        assert_eq!(json, expected);
+    }
+}

@@ -1,0 +1,165 @@
+//! `bench steps`: the run step by step. The steps are the second replayer's, so they are shown only where its report is the proved one.
+
+use crate::status::{Failure, Status, say};
+use crate::words::counted;
+use crate::{input, output};
+use pigwazet::Job;
+use second_replayer::calls::REPORT;
+use second_replayer::file::{self, WORK};
+use second_replayer::machine::Answer;
+use second_replayer::report;
+use second_replayer::watch::{Cell, Event, Log, Row};
+use std::ops::RangeInclusive;
+use std::path::Path;
+
+pub fn run(path: &Path, op: Option<u16>, from: u16, to: Option<u16>) -> Result<Status, Failure> {
+    let both = |file: &[u8]| Ok((pigwazet::read(file)?, pigwazet::replay(file)?, second(file)));
+    let Some((job, proved, second)) = input::accepted(path, both)? else { return Ok(Status::Refused) };
+    let operations = job.operations.len();
+    if op.is_some_and(|op| !(1..=operations).contains(&usize::from(op))) {
+        return Err(Failure(format!("--op is one of the job's operations, 1 to {operations}.")));
+    }
+    let range = range(from, to, job.schedule.len())?;
+    let log = agreed(second, proved.as_str())?;
+    let text = told(&job, &log, op, &range);
+    output::print(&text)?;
+    if text.lines().count() == 1 {
+        say(&op.map_or("The job has no steps.".to_string(), |op| format!("Operation {op} made no step there.")));
+    }
+    Ok(Status::Fine)
+}
+
+/// The steps asked for, which the job must have.
+fn range(from: u16, to: Option<u16>, steps: usize) -> Result<RangeInclusive<u16>, Failure> {
+    let range = from..=to.unwrap_or(steps as u16);
+    let all = range == (1..=steps as u16);
+    if all || (1 <= from && !range.is_empty() && usize::from(*range.end()) <= steps) {
+        return Ok(range);
+    }
+    Err(Failure(format!("The job has {}, counted from 1; --from is not past --to.", counted(steps, "step", "steps"))))
+}
+
+/// The second replayer's report of a file, with the log of its steps; none if it refuses the file.
+pub fn second(file: &[u8]) -> Option<(Log, Vec<u8>)> {
+    let mut work = vec![0; WORK];
+    let (job, _) = file::open(file, &mut work).ok()?;
+    let mut log = Log::default();
+    let mut memory = vec![0; REPORT];
+    let length = report::replay_watched(&job, &mut memory, &mut log);
+    memory.truncate(length);
+    Some((log, memory))
+}
+
+/// The log, if the second replayer's report is the proved one, byte for byte.
+pub fn agreed(second: Option<(Log, Vec<u8>)>, proved: &str) -> Result<Log, Failure> {
+    match second {
+        Some((log, report)) if report == proved.as_bytes() => Ok(log),
+        _ => Err(Failure(
+            "The second replayer does not come to the proved report, so its steps are not shown. Please keep the file and tell the makers of the bench."
+                .to_string(),
+        )),
+    }
+}
+
+/// A line for each step asked for.
+pub fn told(job: &Job, log: &Log, op: Option<u16>, range: &RangeInclusive<u16>) -> String {
+    let mut text = row("step", "process", "operation", "row", "what");
+    let mut events = log.events.iter().peekable();
+    for (process, step) in job.schedule.iter().zip(1u16..) {
+        let event = events.next_if(|event| event.step == step);
+        let asked = op.is_none_or(|op| event.is_some_and(|event| event.operation == op));
+        if asked && range.contains(&step) {
+            text += &line(step, *process, event);
+        }
+    }
+    text
+}
+
+fn row(step: &str, process: &str, operation: &str, row: &str, what: &str) -> String {
+    format!("{step:>5}  {process:>7}  {operation:>9}  {row:3}  {what}\n")
+}
+
+fn line(step: u16, process: u8, event: Option<&Event>) -> String {
+    let (step, process) = (step.to_string(), process.to_string());
+    match event {
+        Some(event) => row(&step, &process, &event.operation.to_string(), &format!("{:?}", event.row), &what(event)),
+        None => row(&step, &process, "-", "-", "idle: no operation remains"),
+    }
+}
+
+/// What a step read or changed, and what came of it.
+fn what(event: &Event) -> String {
+    let mut text = access(event);
+    match (event.row, event.wrote) {
+        (Row::Q3 | Row::P3, Some(own)) => text += &format!("; reading {own} is in"),
+        (Row::T5, Some(item)) => text += &format!("; reading {item} is out"),
+        _ => {}
+    }
+    match event.answer {
+        Some(Answer::Done) => text += "; ends, done",
+        Some(Answer::Item(item)) => text += &format!("; ends with reading {item}"),
+        Some(Answer::Empty) => text += "; ends, empty",
+        None => {}
+    }
+    text
+}
+
+fn access(event: &Event) -> String {
+    let (cell, held) = (cell(event.cell), content(event.cell, event.held));
+    match (event.aim, event.wrote) {
+        (Some((from, to)), wrote) => {
+            let (from, to) = (content(event.cell, from), content(event.cell, to));
+            let came = if wrote.is_some() { "changed".to_string() } else { format!("not changed, it holds {held}") };
+            format!("sets {cell} from {from} to {to}: {came}")
+        }
+        (None, Some(_)) => {
+            let Cell::Mark(node) = event.cell else { return format!("writes {cell}") };
+            format!("raises {cell}, which was {held}: claims reading {node}")
+        }
+        (None, None) => format!("reads {cell}: {held}"),
+    }
+}
+
+fn cell(cell: Cell) -> String {
+    match cell {
+        Cell::Head => "Head".to_string(),
+        Cell::Tail => "Tail".to_string(),
+        Cell::Top => "Top".to_string(),
+        Cell::Next(node) => format!("node {node}'s next"),
+        Cell::Mark(node) => format!("node {node}'s mark"),
+    }
+}
+
+/// What a cell holds: node 0 is the queue's first node, to which Head and Tail may point; elsewhere 0 is none.
+fn content(cell: Cell, held: u16) -> String {
+    match (cell, held) {
+        (Cell::Mark(_), 0) => "clear".to_string(),
+        (Cell::Mark(_), _) => "raised".to_string(),
+        (Cell::Top | Cell::Next(_), 0) => "none".to_string(),
+        (_, node) => format!("node {node}"),
+    }
+}
+
+#[cfg(test)]
+mod tests {
+    use super::*;
+
+    #[test]
+    fn steps_are_shown_only_where_the_reports_agree() {
+        let file = include_bytes!("../../../examples/listing.job");
+        let proved = pigwazet::replay(file).unwrap();
+        assert!(agreed(second(file), proved.as_str()).is_ok());
+        let other = proved.as_str().replace("value 50", "value 51");
+        assert!(agreed(second(file), &other).is_err());
+        assert!(agreed(None, proved.as_str()).is_err());
+    }
+
+    #[test]
+    fn steps_that_the_job_has_not_are_refused() {
+        assert!(range(1, None, 0).is_ok_and(|range| range.is_empty()));
+        assert_eq!(range(2, Some(2), 12), Ok(2..=2));
+        for (from, to) in [(0, None), (3, Some(2)), (1, Some(13)), (13, None)] {
+            assert!(range(from, to, 12).is_err());
+        }
+    }
+}

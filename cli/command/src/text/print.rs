@@ -1,0 +1,89 @@
+//! The one form in which a job is printed as text.
+
+use pigwazet::{Action, Job, Operation};
+
+/// Terms in an order line: a process, or a process and how often.
+const TERMS: usize = 16;
+/// A process is repeated in a term from this many steps on.
+const REPEATED: usize = 3;
+/// Comments stand behind this column.
+const COLUMN: usize = 16;
+
+pub fn job(job: &Job) -> String {
+    let mut text = format!("{}\nprocesses {}\n\n", job.kind.name(), job.processes);
+    for (operation, number) in job.operations.iter().zip(1..) {
+        text += &commented(&statement(operation), &format!("operation {number}"));
+    }
+    if !job.schedule.is_empty() {
+        text.push('\n');
+    }
+    let mut made = 0;
+    for terms in terms(&job.schedule).chunks(TERMS) {
+        let steps: usize = terms.iter().map(|&(_, count)| count).sum();
+        let words: Vec<String> = terms.iter().map(term).collect();
+        text += &commented(&format!("order {}", words.join(" ")), &steps_told(made + 1, made + steps));
+        made += steps;
+    }
+    text
+}
+
+fn commented(line: &str, comment: &str) -> String {
+    format!("{line:COLUMN$}  # {comment}\n")
+}
+
+fn statement(operation: &Operation) -> String {
+    match operation.action {
+        Action::Put(value) => format!("put {} {value}", operation.process),
+        Action::Take => format!("take {}", operation.process),
+    }
+}
+
+fn steps_told(from: usize, to: usize) -> String {
+    if from == to { format!("step {from}") } else { format!("steps {from} to {to}") }
+}
+
+/// The schedule as processes, each with how often it steps in a row; few steps in a row are written out.
+fn terms(schedule: &[u8]) -> Vec<(u8, usize)> {
+    let mut terms = vec![];
+    for run in schedule.chunk_by(|one, next| one == next) {
+        if run.len() < REPEATED {
+            terms.extend(run.iter().map(|&process| (process, 1)));
+        } else {
+            terms.push((run[0], run.len()));
+        }
+    }
+    terms
+}
+
+fn term(&(process, count): &(u8, usize)) -> String {
+    if count == 1 { process.to_string() } else { format!("{process} x {count}") }
+}
+
+#[cfg(test)]
+mod tests {
+    use super::*;
+    use pigwazet::Kind;
+
+    #[test]
+    fn a_job_is_printed_in_one_form() {
+        let put = Operation { process: 0, action: Action::Put(-15) };
+        let take = Operation { process: 1, action: Action::Take };
+        let job = Job { kind: Kind::Stack, processes: 2, operations: vec![put, take], schedule: vec![0, 0, 1, 1, 1, 1, 0] };
+        let text = "stack
+processes 2
+
+put 0 -15         # operation 1
+take 1            # operation 2
+
+order 0 0 1 x 4 0  # steps 1 to 7
+";
+        assert_eq!(super::job(&job), text);
+    }
+
+    #[test]
+    fn no_steps_have_no_order() {
+        let put = Operation { process: 0, action: Action::Put(0) };
+        let job = Job { kind: Kind::Queue, processes: 1, operations: vec![put], schedule: vec![] };
+        assert_eq!(super::job(&job), "queue\nprocesses 1\n\nput 0 0           # operation 1\n");
+    }
+}

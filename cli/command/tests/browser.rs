@@ -1,0 +1,212 @@
+//! The page of `bench picture` in a real browser: it draws what the report says, and picking a reading marks its takers. What the report says is counted
+//! here from its text, not by the command. Run by tests/cli/run, which installs the browser.
+
+mod shared;
+
+use shared::{Room, generated, samples};
+use std::fs;
+use std::process::Command;
+use std::time::{Duration, Instant};
+
+/// The page after its script ran, as the browser holds it.
+fn drawn(room: &Room, page: &str, fragment: &str) -> String {
+    let url = format!("file://{}#{fragment}", room.0.join(page).display());
+    let output = Command::new("chromium-headless-shell").args(["--no-sandbox", "--disable-gpu", "--dump-dom", &url]).output();
+    let output = output.expect("chromium-headless-shell is not installed");
+    let text = String::from_utf8(output.stdout).unwrap();
+    assert!(text.contains("data-drawn="), "{page} was not drawn: {}", String::from_utf8_lossy(&output.stderr));
+    text
+}
+
+/// The elements with a class and an attribute, as the attribute's values.
+fn with_class(dom: &str, class: &str, attribute: &str) -> Vec<String> {
+    let mut values = vec![];
+    for element in dom.split('<').skip(1) {
+        let tag = element.split('>').next().unwrap_or_default();
+        let value = |name: &str| tag.split(&format!(" {name}=\"")).nth(1).and_then(|rest| rest.split('"').next());
+        if value("class").is_some_and(|classes| classes.split(' ').any(|other| other == class)) {
+            values.extend(value(attribute).map(String::from));
+        }
+    }
+    values
+}
+
+/// What a report says of bars, effects, ties and items left.
+struct Told {
+    bars: Vec<String>,
+    effects: Vec<(String, String)>,
+    ties: Vec<String>,
+    left: Vec<String>,
+}
+
+fn told(report: &str) -> Told {
+    let mut told = Told { bars: vec![], effects: vec![], ties: vec![], left: vec![] };
+    for line in report.lines() {
+        let words: Vec<String> = line.split(' ').map(String::from).collect();
+        match words[0].as_str() {
+            "op" if !line.ends_with("waiting") => told.bars.push(words[1].clone()),
+            "at" => {
+                let by = words.iter().position(|word| word == "by").map_or(3, |at| at + 1);
+                told.effects.extend(words[by..].iter().map(|own| (own.clone(), words[1].clone())));
+                if words[2] == "take" && words.len() > by + 1 {
+                    told.ties.push(words[3].clone());
+                }
+            }
+            "left" => told.left = words[2..].to_vec(),
+            _ => {}
+        }
+    }
+    told
+}
+
+/// Draws a job and holds the page against the report; gives the page.
+fn held(room: &Room, name: &str, file: &[u8]) -> String {
+    let report = pigwazet::replay(file).unwrap();
+    room.write(&format!("{name}.job"), file);
+    room.bench(&format!("picture {name}.job")).is(0, "", &format!("{name}.html: "));
+    let dom = drawn(room, &format!("{name}.html"), "");
+    let told = told(report.as_str());
+    let mut effects: Vec<(String, String)> =
+        with_class(&dom, "effect", "data-op").into_iter().zip(with_class(&dom, "effect", "data-at")).collect();
+    let mut expected = told.effects.clone();
+    effects.sort();
+    expected.sort();
+    assert_eq!(with_class(&dom, "bar", "data-op"), told.bars, "{name}");
+    assert_eq!(effects, expected, "{name}");
+    assert_eq!(with_class(&dom, "tie", "data-item"), told.ties, "{name}");
+    assert_eq!(with_class(&dom, "left", "data-item"), told.left, "{name}");
+    dom
+}
+
+#[test]
+#[ignore = "needs a browser: tests/cli/run installs it"]
+fn every_sample_is_drawn_as_its_report_has_it() {
+    let room = Room::new("pages");
+    for (name, file) in samples() {
+        let dom = held(&room, &name, &file);
+        // process 0 of that job has no operation
+        assert!(name != "smallest" || dom.contains("queue · 1 operation by 1 process · "));
+    }
+}
+
+#[test]
+#[ignore = "needs a browser: tests/cli/run installs it"]
+fn generated_jobs_are_drawn_as_their_reports_have_them() {
+    let room = Room::new("generated-pages");
+    for seed in 0..16 {
+        held(&room, &format!("seed-{seed}"), &generated(seed).1);
+    }
+}
+
+#[test]
+#[ignore = "needs a browser: tests/cli/run installs it"]
+fn picking_a_reading_marks_its_put_and_its_takers() {
+    let room = Room::new("picked");
+    for name in ["listing", "stack-double", "open-take", "flood-hour"] {
+        room.sample(&format!("{name}.job"));
+        room.bench(&format!("picture {name}.job")).is(0, "", "html");
+        let text = fs::read_to_string(shared::top().join("examples").join(name).with_extension("txt")).unwrap();
+        let line = text.lines().rfind(|line| line.contains(" take ") && line.starts_with("at ")).unwrap();
+        let (item, takers) = line.split_once(" take ").unwrap().1.split_once(" by ").unwrap();
+        // by the address, and by a click on the put's bar
+        let click = format!(
+            "document.querySelector('.bar[data-op=\"{item}\"]').dispatchEvent(new MouseEvent('click', {{ bubbles: true }}));"
+        );
+        room.write(
+            "clicked.html",
+            room.text(&format!("{name}.html")).replace("</body>", &format!("<script>{click}</script></body>")),
+        );
+        for dom in [drawn(&room, &format!("{name}.html"), &format!("reading={item}")), drawn(&room, "clicked.html", "")] {
+            let of = |class: &str| {
+                let mut numbers = with_class(&dom, class, "data-op");
+                numbers.sort_by_key(|number| number.parse::<u16>().unwrap());
+                numbers.dedup();
+                numbers.join(" ")
+            };
+            assert_eq!((of("picked").as_str(), of("taker").as_str()), (item, takers), "{name}");
+            assert!(dom.contains("class=\"dim\""), "{name}");
+            for sentence in room.bench(&format!("reading {name}.job {item}")).out.lines() {
+                assert!(dom.contains(&format!("<p>{sentence}</p>")), "{name}: {sentence}");
+            }
+        }
+        let dom = drawn(&room, &format!("{name}.html"), "");
+        assert!(with_class(&dom, "picked", "data-op").is_empty() && with_class(&dom, "taker", "data-op").is_empty());
+    }
+}
+
+#[test]
+#[ignore = "needs a browser: tests/cli/run installs it"]
+fn pointing_shows_the_lines_of_the_report() {
+    let room = Room::new("pointed");
+    room.sample("listing.job");
+    room.bench("picture listing.job").is(0, "", "html");
+    let page = room.text("listing.html");
+    for (element, lines) in [
+        (".bar[data-op=\"2\"]", "op 2 process 1 take first 5 last 11 item 1 value 50\nat 11 take 1 by 2 3"),
+        (".effect[data-op=\"1\"]", "at 3 put 1\nop 1 process 0 put 50 first 1 last 4 done"),
+        (".tie", "at 11 take 1 by 2 3"),
+    ] {
+        let point =
+            format!("document.querySelector('{element}').dispatchEvent(new PointerEvent('pointerover', {{ bubbles: true }}));");
+        room.write("pointed.html", page.replace("</body>", &format!("<script>{point}</script></body>")));
+        let dom = drawn(&room, "pointed.html", "");
+        assert!(dom.contains(&format!(">{lines}</div>")), "{element}");
+    }
+}
+
+#[test]
+#[ignore = "needs a browser: tests/cli/run installs it"]
+fn zooming_keeps_every_bar_and_widens_it() {
+    let room = Room::new("zoomed");
+    room.sample("flood-hour.job");
+    room.bench("picture flood-hour.job").is(0, "", "html");
+    let nearer = "for (let i = 0; i < 20; i++) document.getElementById('nearer').click();";
+    room.write("near.html", room.text("flood-hour.html").replace("</body>", &format!("<script>{nearer}</script></body>")));
+    let (far, near) = (drawn(&room, "flood-hour.html", ""), drawn(&room, "near.html", ""));
+    assert_eq!(with_class(&far, "bar", "data-op"), with_class(&near, "bar", "data-op"));
+    let width = |dom: &str| {
+        dom.split("id=\"plot\"")
+            .nth(1)
+            .unwrap()
+            .split(" width=\"")
+            .nth(1)
+            .unwrap()
+            .split('"')
+            .next()
+            .unwrap()
+            .parse::<f64>()
+            .unwrap()
+    };
+    // 16,348 steps are named, 24 pixels each
+    assert!(width(&far) < 2_000.0 && width(&near) > 390_000.0, "{} {}", width(&far), width(&near));
+    assert!(!with_class(&near, "tick", "class").is_empty());
+}
+
+#[test]
+#[ignore = "needs a browser: tests/cli/run installs it"]
+fn a_full_size_job_opens_in_under_two_seconds() {
+    let room = Room::new("full-size");
+    room.write("full.job", shared::full_size(1).1);
+    room.bench("picture full.job").is(0, "", "html");
+    let began = Instant::now();
+    let dom = drawn(&room, "full.html", "");
+    let whole = began.elapsed();
+    let drawn = dom.split("data-drawn=\"").nth(1).unwrap().split('"').next().unwrap().parse::<u64>().unwrap();
+    println!("drawn {drawn} ms after the page was asked for; {whole:?} with the browser's start");
+    assert!(Duration::from_millis(drawn) < Duration::from_secs(2));
+}
+
+#[test]
+#[ignore = "needs a browser: tests/cli/run installs it"]
+fn a_page_asks_for_nothing_from_elsewhere() {
+    let room = Room::new("alone");
+    room.sample("listing.job");
+    room.bench("picture listing.job --out run.html").is(0, "", "run.html: open it in a browser");
+    let page = room.text("run.html");
+    for word in ["src=", "href=", "url(", "@import", "fetch(", "XMLHttpRequest", "import("] {
+        assert!(!page.contains(word), "{word}");
+    }
+    let addresses: Vec<&str> = page.split("http").skip(1).collect();
+    // the name of SVG, which nobody fetches
+    assert!(addresses.iter().all(|rest| rest.starts_with("://www.w3.org/2000/svg\"")));
+}

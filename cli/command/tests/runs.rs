@@ -1,0 +1,230 @@
+//! `reading` and `steps`: the fates of readings and the steps of runs, on samples as the papers tell them and on generated jobs.
+
+mod shared;
+
+use bench_command::{reading, steps};
+use second::check::parse::{Effect, Report};
+use shared::{Room, generated, samples, top};
+use std::fs;
+
+/// A sample, a reading, and its fate.
+const FATES: [(&str, u16, &str); 5] = [
+    (
+        "listing",
+        1,
+        "Reading 1: 50 cm, put by operation 1 of process 0 (steps 1 to 4).\n\
+         The record has it coming into the queue at step 3.\n\
+         The record has it going out at step 11, to operation 2 of process 1 (steps 5 to 11) and operation 3 of process 2 (steps 6 to 12).\n\
+         A double: the 2 takers overlap from step 6 to step 11.\n",
+    ),
+    (
+        "open-take",
+        1,
+        "Reading 1: 120 cm, put by operation 1 of process 0 (steps 1 to 2).\n\
+         The record has it coming into the stack at step 2.\n\
+         The record has it going out at step 3, to operation 2 of process 1 (open since step 3).\n\
+         That one has claimed it and is open, so nobody has it yet.\n",
+    ),
+    (
+        "open-put",
+        1,
+        "Reading 1: 120 cm, put by operation 1 of process 0 (open since step 1).\n\
+         The record has it coming into the queue at step 3.\n\
+         The record has it going out at step 11, to operation 2 of process 1 (steps 4 to 11).\n\
+         It was taken once: no double.\n",
+    ),
+    (
+        "fifth-trace",
+        3,
+        "Reading 3: 130 cm, put by operation 3 of process 0 (steps 5 to 7).\n\
+         The record has it coming into the stack at step 7.\n\
+         Nobody took it. It is still in the stack: place 1 of 1 from the top.\n",
+    ),
+    (
+        "below-datum",
+        5,
+        "Reading 5: -3277 cm, put by operation 5 of process 0 (steps 17 to 20).\n\
+         The record has it coming into the queue at step 19.\n\
+         Nobody took it. It is still in the queue: place 3 of 5 from the front.\n",
+    ),
+];
+
+#[test]
+fn fates_of_the_samples() {
+    let room = Room::new("fates");
+    for (name, number, fate) in FATES {
+        room.sample(&format!("{name}.job"));
+        room.bench(&format!("reading {name}.job {number}")).is(0, fate, "");
+    }
+    let doubles = "Reading 1: 50 cm, to operation 2 of process 1 (steps 5 to 11) and operation 3 of process 2 (steps 6 to 12); they overlap from step 6 to step 11.\n\
+                   Of 1 reading 1 was taken more than once.\n";
+    room.bench("reading listing.job --doubles").is(0, doubles, "");
+    room.bench("reading open-put.job --doubles").is(0, "Of 1 reading none was taken more than once.\n", "");
+    room.bench("reading below-datum.job 8")
+        .fails("Operation 8 is a take. A reading has the number of its put: here 1, 2, 3, 4, 5, 6 and 7.");
+    room.bench("reading listing.job 4").fails("Operation 4 is not in the job. A reading has the number of its put: here 1.");
+    room.bench("reading listing.job 0").fails("Operation 0 is not in the job.");
+    room.sample("flood-hour.job");
+    room.bench("reading flood-hour.job 257").fails("A reading has the number of its put: here 125, from 1 to 248.");
+}
+
+/// What the report, taken apart by the checks of the second replayer, says of a reading.
+struct Expected {
+    put: Option<u16>,
+    taken: Option<(u16, Vec<u16>)>,
+    left: Option<usize>,
+}
+
+fn expected(report: &Report, item: u16) -> Expected {
+    let put = report.lines.iter().find_map(|line| matches!(line.effect, Effect::Put(own) if own == item).then_some(line.at));
+    let taken = report.lines.iter().find_map(|line| match &line.effect {
+        Effect::Take(of, takers) if *of == item => Some((line.at, takers.clone())),
+        _ => None,
+    });
+    Expected { put, taken, left: report.left.iter().position(|&left| left == item) }
+}
+
+/// Holds the sentences of a fate against what is expected.
+fn holds(text: &str, expected: &Expected, all_left: usize) {
+    match expected.put {
+        Some(at) => assert!(text.contains(&format!(" at step {at}.\n")), "{text}"),
+        None => {
+            assert!(text.ends_with("it never came into the queue.") || text.ends_with("it never came into the stack."), "{text}")
+        }
+    }
+    assert_eq!(text.contains("Nobody took it. "), expected.left.is_some(), "{text}");
+    if let Some(place) = expected.left {
+        assert!(text.contains(&format!(": place {} of {all_left} from the ", place + 1)), "{text}");
+    }
+    let takers = expected.taken.as_ref().map_or(&[][..], |(_, takers)| takers);
+    assert_eq!(text.contains("A double: "), takers.len() > 1, "{text}");
+    if let Some((at, takers)) = &expected.taken {
+        let begins = format!("The record has it going out at step {at}, to operation {} of ", takers[0]);
+        let line = text.lines().find(|line| line.starts_with(&begins)).unwrap();
+        assert_eq!(line.matches("operation ").count(), takers.len(), "{text}");
+        assert!(takers.iter().all(|taker| line.contains(&format!("operation {taker} of process "))), "{text}");
+    }
+}
+
+#[test]
+fn fates_of_generated_jobs_are_those_of_their_reports() {
+    let (mut doubles, mut kept, mut never) = (0, 0, 0);
+    for seed in 0..1_600 {
+        let report = pigwazet::replay(&generated(seed).1).unwrap();
+        let run = report.run();
+        let apart = Report::of(report.as_str().as_bytes()).unwrap();
+        for operation in &apart.operations {
+            let item = operation.number;
+            let fate = reading::fate(&run, item);
+            assert_eq!(fate.is_some(), operation.put.is_some(), "seed {seed}, {item}");
+            let (Some(fate), Some(value)) = (fate, operation.put) else { continue };
+            let text = fate.join("\n");
+            let by = if operation.first.is_some() { "put by" } else { "to be put by" };
+            let begins = format!("Reading {item}: {value} cm, {by} operation {item} of process {} (", operation.process);
+            assert!(text.starts_with(&begins), "seed {seed}: {text}");
+            let expected = expected(&apart, item);
+            holds(&text, &expected, apart.left.len());
+            doubles += usize::from(expected.taken.is_some_and(|(_, takers)| takers.len() > 1));
+            kept += usize::from(expected.left.is_some());
+            never += usize::from(expected.put.is_none());
+        }
+    }
+    assert!(doubles > 100 && kept > 100 && never > 100, "{doubles} {kept} {never}");
+}
+
+#[test]
+fn steps_of_the_listing_in_words() {
+    let room = Room::new("steps");
+    room.sample("listing.job");
+    let all = " step  process  operation  row  what
+    1        0          1  Q1   reads Tail: node 0
+    2        0          1  Q2   reads node 0's next: none
+    3        0          1  Q3   sets node 0's next from none to node 1: changed; reading 1 is in
+    4        0          1  Q4   sets Tail from node 0 to node 1: changed; ends, done
+    5        1          2  T1   reads Head: node 0
+    6        2          3  T1   reads Head: node 0
+    7        1          2  T2   reads Tail: node 1
+    8        2          3  T2   reads Tail: node 1
+    9        1          2  T3   reads node 0's next: node 1
+   10        2          3  T3   reads node 0's next: node 1
+   11        1          2  T5   sets Head from node 0 to node 1: changed; reading 1 is out; ends with reading 1
+   12        2          3  T5   sets Head from node 0 to node 1: not changed, it holds node 1; ends with reading 1
+";
+    room.bench("steps listing.job").is(0, all, "");
+    let only = |keep: fn(usize) -> bool| {
+        all.lines().enumerate().filter(|&(i, _)| i == 0 || keep(i)).map(|(_, line)| format!("{line}\n")).collect::<String>()
+    };
+    room.bench("steps listing.job --op 2").is(0, &only(|step| [5, 7, 9, 11].contains(&step)), "");
+    room.bench("steps listing.job --from 3 --to 4").is(0, &only(|step| step == 3 || step == 4), "");
+    room.bench("steps listing.job --op 3 --from 9").is(0, &only(|step| step == 10 || step == 12), "");
+    room.bench_with("steps - --to 1", &room.read("listing.job")).is(0, &only(|step| step == 1), "");
+    for words in ["--op 0", "--op 4"] {
+        room.bench(&format!("steps listing.job {words}")).fails("--op is one of the job's operations, 1 to 3.");
+    }
+    for words in ["--from 0", "--from 13", "--to 13", "--from 4 --to 3", "--to 0"] {
+        room.bench(&format!("steps listing.job {words}")).fails("The job has 12 steps, counted from 1; --from is not past --to.");
+    }
+    room.write("still.txt", "stack\nprocesses 1\ntake 0\n");
+    room.bench("make still.txt").is(0, "", "still.job: stack, 1 process, 1 operation, 0 steps\n");
+    room.bench("steps still.job").is(0, " step  process  operation  row  what\n", "The job has no steps.\n");
+    let only = room.bench("steps listing.job --op 2 --to 4");
+    only.is(0, " step  process  operation  row  what\n", "Operation 2 made no step there.\n");
+}
+
+#[test]
+fn steps_of_a_stack_in_words() {
+    let room = Room::new("steps-of-a-stack");
+    room.sample("open-take.job");
+    let last = "    5        1          2  R3   raises node 1's mark, which was clear: claims reading 1
+    6        2          3  R1   reads Top: node 1
+    7        2          3  R2   reads node 1's mark: raised
+    8        2          3  R5   sets Top from node 1 to none: changed
+    9        2          3  R1   reads Top: none; ends, empty
+";
+    room.bench("steps open-take.job --from 5").tells(0, last);
+    room.sample("smallest.job");
+    room.bench("steps smallest.job --from 2 --to 2").tells(0, "\n    2        0          -  -    idle: no operation remains\n");
+}
+
+/// The rows that docs/STEPS.md lays out under a job: its lines `process` and `row`.
+#[test]
+fn rows_are_those_that_the_page_about_steps_shows() {
+    let page = fs::read_to_string(top().join("docs/STEPS.md")).unwrap();
+    let room = Room::new("rows");
+    let mut shown = 0;
+    for block in page.split("\n\n") {
+        let Some((name, _)) = block.trim_start().strip_prefix("examples/").and_then(|rest| rest.split_once(".job: ")) else {
+            continue;
+        };
+        let words = |line: &str| -> Vec<String> {
+            let line = block.lines().map(str::trim).find(|other| other.starts_with(line)).unwrap();
+            line.split_whitespace().skip(1).map(String::from).collect()
+        };
+        room.sample(&format!("{name}.job"));
+        let out = room.bench(&format!("steps {name}.job")).out;
+        let column = |at: usize| -> Vec<String> {
+            out.lines().skip(1).map(|line| line.split_whitespace().nth(at).unwrap().to_string()).collect()
+        };
+        let rows: Vec<String> = out.lines().skip(1).map(|line| line.split_whitespace().nth(3).unwrap().to_string()).collect();
+        assert_eq!((column(1), rows), (words("process "), words("row ")), "{name}");
+        shown += 1;
+    }
+    assert!(shown >= 7, "{shown}");
+}
+
+#[test]
+fn the_two_replayers_agree_and_every_step_has_a_line() {
+    let files = (0..800).map(|seed| generated(seed).1).chain(samples().into_iter().map(|(_, file)| file));
+    for file in files {
+        let proved = pigwazet::replay(&file).unwrap();
+        let job = pigwazet::read(&file).unwrap();
+        let log = steps::agreed(steps::second(&file), proved.as_str()).unwrap();
+        let all = job.schedule.len();
+        let text = steps::told(&job, &log, None, &(1..=all as u16));
+        assert_eq!(text.lines().count(), all + 1);
+        let of_each: usize = (1..=job.operations.len() as u16)
+            .map(|op| steps::told(&job, &log, Some(op), &(1..=all as u16)).lines().count() - 1)
+            .sum();
+        assert_eq!(of_each + text.matches("idle: no operation remains").count(), all);
+    }
+}

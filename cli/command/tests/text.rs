@@ -1,0 +1,143 @@
+//! Job texts: what is printed makes the very file, for all generated jobs; what is wrong in a text is told.
+
+mod shared;
+
+use bench_command::text::{parse, print};
+use pigwazet::limits::{OPERATIONS, STEPS};
+use rayon::prelude::*;
+use shared::{Room, generated, samples};
+
+/// A file as text, and the file made of that text.
+fn there_and_back(file: &[u8]) -> (String, Vec<u8>) {
+    let text = print::job(&pigwazet::read(file).unwrap());
+    let job = parse::job(&text).unwrap();
+    (text, pigwazet::write(&job).unwrap())
+}
+
+#[test]
+fn make_after_text_gives_the_very_file() {
+    // as many jobs as the second replayer is compared on
+    (0..40_000).into_par_iter().for_each(|seed| {
+        let (_, file) = generated(seed);
+        let (text, again) = there_and_back(&file);
+        assert!(again == file, "seed {seed}:\n{text}");
+    });
+}
+
+#[test]
+fn the_command_makes_the_very_file_of_each_sample() {
+    let room = Room::new("samples-as-text");
+    for (name, file) in samples() {
+        room.write(&format!("{name}.job"), &file);
+        let text = room.bench(&format!("text {name}.job"));
+        assert_eq!((text.status, text.said.as_str()), (0, ""));
+        room.write("again.txt", &text.out);
+        room.bench("make again.txt --out again.job").is(0, "", "again.job: ");
+        assert!(room.read("again.job") == file, "{name}");
+    }
+}
+
+#[test]
+fn the_text_of_the_papers_is_the_listing() {
+    let text = "queue\nprocesses 3\nput 0 500\ntake 1\ntake 2\norder 0 0 0 0 1 2 1 2 1 2 1 2\n";
+    let other = "\u{feff}# a job\r\n\r\nqueue # the object\r\n\tprocesses  3\r\nput 0 500\r\norder 0 x 4\r\ntake 1\r\ntake 2\r\norder 1 2 1 2 1\r\norder 2 1 2";
+    let listing = include_bytes!("../../../examples/listing.job");
+    for text in [text, other] {
+        assert_eq!(pigwazet::write(&parse::job(text).unwrap()).unwrap(), listing);
+    }
+}
+
+#[test]
+fn a_text_at_the_limits_is_a_job_and_one_past_them_is_not() {
+    let puts = |count: usize| "put 7 -32768\n".repeat(count);
+    let text = |operations: usize, steps: usize| format!("stack\nprocesses 8\n{}order 7 x {steps}\n", puts(operations));
+    let job = parse::job(&text(OPERATIONS, STEPS)).unwrap();
+    assert_eq!(pigwazet::write(&job).unwrap().len(), 35 * 512);
+    let wrong =
+        |text: &str| parse::job(text).unwrap_err().iter().map(|fault| (fault.line, fault.wrong.to_string())).collect::<Vec<_>>();
+    assert_eq!(wrong(&text(OPERATIONS + 1, 1)), [(259, "found one operation more; allowed: at most 256 operations".to_string())]);
+    assert_eq!(wrong(&text(1, STEPS + 1)), [(4, "found '16385'; allowed: how often, 1 to 16,384".to_string())]);
+    let more = text(1, STEPS) + "order 0 1\n";
+    assert_eq!(wrong(&more), [(5, "found step 16,385; allowed: at most 16,384 steps in all orders together".to_string())]);
+}
+
+/// A text in which one line, the fourth, is another.
+fn with(line: &str) -> String {
+    format!("queue\nprocesses 3\nput 0 500\n{line}\norder 0 1 2\n")
+}
+
+#[test]
+fn what_was_found_and_what_is_allowed() {
+    let end = "the end of the line";
+    let process = "a process, 0 to 2";
+    for (line, found, allowed) in [
+        ("pit 0 500", "'pit'", "a line that begins with queue, stack, processes, put, take or order"),
+        ("Take 1", "'Take'", "a line that begins with queue, stack, processes, put, take or order"),
+        ("linked", "'linked'", "a line that begins with queue, stack, processes, put, take or order"),
+        ("put 3 500", "'3'", process),
+        ("put -1 500", "'-1'", process),
+        ("put +1 500", "'+1'", process),
+        ("put 0", end, "a stage in mm, -32,768 to 32,767"),
+        ("put 0 32768", "'32768'", "a stage in mm, -32,768 to 32,767"),
+        ("put 0 -32769", "'-32769'", "a stage in mm, -32,768 to 32,767"),
+        ("put 0 5.5", "'5.5'", "a stage in mm, -32,768 to 32,767"),
+        ("put 0 \u{2212}15", "'\u{2212}15', which does not begin with the - of a keyboard", "a stage in mm, -32,768 to 32,767"),
+        ("put 0 500 on 2", "'on'", "the end of the line, or # and a comment"),
+        ("take", end, process),
+        ("take 1 0", "'0'", "the end of the line, or # and a comment"),
+        ("order", end, process),
+        ("order 0 x", end, "how often, 1 to 16,384"),
+        ("order 0 x 0", "'0'", "how often, 1 to 16,384"),
+        ("order 0 x4", "'x4'", "a process, 0 to 2, or x and how often"),
+        ("order 0 x 4 x 4", "'x'", process),
+        ("put\u{a0}0 500", "'put\u{a0}0'", "a line that begins with queue, stack, processes, put, take or order"),
+        ("order x 4", "'x'", process),
+        ("order drop 1", "'drop'", process),
+        ("order 99999999999999999999", "'99999999999999999999'", process),
+        ("stack", "a second object, 'stack'", "one object"),
+        ("processes 3", "a second line of processes", "one"),
+    ] {
+        let faults = parse::job(&with(line)).unwrap_err();
+        assert_eq!(faults.len(), 1, "{line}: {faults:?}");
+        assert_eq!(
+            (faults[0].line, faults[0].wrong.found.as_str(), faults[0].wrong.allowed.as_str()),
+            (4, found, allowed),
+            "{line}"
+        );
+    }
+}
+
+#[test]
+fn what_is_missing_is_told() {
+    for (text, line, found) in [
+        ("", 1, "the end of the text, and no object"),
+        ("# nothing\n\n", 2, "the end of the text, and no object"),
+        ("queue\n", 1, "the end of the text, and no line of processes"),
+        ("queue\nprocesses 1\norder 0\n", 3, "the end of the text, and no operation"),
+        ("queue\nput 0 5\nprocesses 1\n", 2, "no line of processes yet"),
+        ("processes 1\ntake 0\n", 2, "the end of the text, and no object"),
+        ("queue\nprocesses 9\nput 8 5\n", 2, "'9'"),
+        ("queue\rprocesses 1\rput 0 5\r", 1, "'queue\\rprocesses'"),
+    ] {
+        let faults = parse::job(text).unwrap_err();
+        assert_eq!((faults[0].line, faults[0].wrong.found.as_str()), (line, found), "{text}");
+    }
+}
+
+#[test]
+fn every_wrong_line_is_told_and_no_file_is_made() {
+    let room = Room::new("wrong-text");
+    room.write("hour.txt", "queue\nprocesses 3\n\n# the crest\nput 9 500\ntake 1\ntake 2\n\norder 0 x\n");
+    let said = "hour.txt:5: found '9'; allowed: a process, 0 to 2\n    put 9 500\n\
+                hour.txt:9: found the end of the line; allowed: how often, 1 to 16,384\n    order 0 x\n";
+    let ran = room.bench("make hour.txt");
+    ran.fails(said);
+    assert_eq!(ran.said, said);
+    assert!(!room.has("hour.job"));
+    room.write("one.txt", format!("queue\nprocesses 1\nput 1 {}\n", "9".repeat(100)));
+    room.bench("make one.txt").fails(&format!("one.txt:3: found '1'; allowed: a process, 0\n    put 1 {} …\n", "9".repeat(54)));
+    room.write("long.txt", "queue\nprocesses 1\nput 0 5\n".to_string() + &"#\n".repeat(8 << 20));
+    room.bench("make long.txt").fails("long.txt is longer than 16 MiB.");
+    room.write("many.txt", "queue\nprocesses 1\n".to_string() + &"tke 0\n".repeat(50));
+    room.bench("make many.txt").fails("and 30 lines more\n");
+}

@@ -1,0 +1,100 @@
+//! A job under names, and its stream: document 01's "Job files".
+
+use crate::limits::{HEADER, RECORD};
+
+/// The shared object that a job runs on.
+#[derive(Clone, Copy, PartialEq, Eq, Hash, Debug)]
+pub enum Kind {
+    Queue,
+    Stack,
+}
+
+/// Every kind with its number in a file and its name in reports and texts.
+const KINDS: [(Kind, u8, &str); 2] = [(Kind::Queue, 1, "queue"), (Kind::Stack, 2, "stack")];
+
+impl Kind {
+    pub fn all() -> impl Iterator<Item = Kind> {
+        KINDS.iter().map(|&(kind, ..)| kind)
+    }
+
+    pub fn name(self) -> &'static str {
+        self.entry().2
+    }
+
+    pub fn named(name: &str) -> Option<Kind> {
+        Kind::all().find(|kind| kind.name() == name)
+    }
+
+    /// Its number in a file.
+    pub fn number(self) -> u8 {
+        self.entry().1
+    }
+
+    pub fn numbered(number: u8) -> Option<Kind> {
+        Kind::all().find(|kind| kind.number() == number)
+    }
+
+    fn entry(self) -> &'static (Kind, u8, &'static str) {
+        KINDS.iter().find(|(kind, ..)| *kind == self).expect("every kind has an entry")
+    }
+}
+
+/// What an operation does: a put of a stage in mm, signed, or a take.
+#[derive(Clone, Copy, PartialEq, Eq, Hash, Debug)]
+pub enum Action {
+    Put(i16),
+    Take,
+}
+
+#[derive(Clone, Copy, PartialEq, Eq, Hash, Debug)]
+pub struct Operation {
+    pub process: u8,
+    pub action: Action,
+}
+
+/// A job: operation 1 is the first of `operations`, step 1 the first of `schedule`, whose entries are processes.
+#[derive(Clone, PartialEq, Eq, Hash, Debug)]
+pub struct Job {
+    pub kind: Kind,
+    pub processes: u8,
+    pub operations: Vec<Operation>,
+    pub schedule: Vec<u8>,
+}
+
+impl Operation {
+    fn record(&self) -> [u8; RECORD] {
+        let (action, value) = match self.action {
+            Action::Put(value) => (1, value),
+            Action::Take => (2, 0),
+        };
+        let [high, low] = value.to_be_bytes();
+        [self.process, action, high, low]
+    }
+
+    fn of_record(&[process, action, high, low]: &[u8; RECORD]) -> Operation {
+        let action = if action == 1 { Action::Put(i16::from_be_bytes([high, low])) } else { Action::Take };
+        Operation { process, action }
+    }
+}
+
+impl Job {
+    /// The stream of a job, without padding. A count that its field cannot hold is written as the largest, which is refused.
+    pub(crate) fn stream(&self) -> Vec<u8> {
+        let count = |length: usize| u16::try_from(length).unwrap_or(u16::MAX).to_be_bytes();
+        let mut stream = vec![self.kind.number(), self.processes];
+        stream.extend(count(self.operations.len()));
+        stream.extend(count(self.schedule.len()));
+        stream.extend(self.operations.iter().flat_map(Operation::record));
+        stream.extend(&self.schedule);
+        stream
+    }
+
+    /// The job of a stream that the library accepted.
+    pub(crate) fn of_stream(stream: &[u8]) -> Job {
+        let kind = Kind::numbered(stream[0]).expect("an accepted kind");
+        let operations = usize::from(u16::from_be_bytes([stream[2], stream[3]]));
+        let (records, schedule) = stream[HEADER..].split_at(RECORD * operations);
+        let operations = records.as_chunks().0.iter().map(Operation::of_record).collect();
+        Job { kind, processes: stream[1], operations, schedule: schedule.to_vec() }
+    }
+}

@@ -1,0 +1,21 @@
+//! The figures of document 01 that a caller meets, each once.
+
+/// Bytes of a block, and of the payload in it.
+pub const BLOCK: usize = 512;
+pub const PAYLOAD: usize = 506;
+/// Blocks and bytes of the longest file.
+pub const BLOCKS: usize = 35;
+pub const FILE: usize = BLOCKS * BLOCK;
+/// The least work memory: the payload of the longest file.
+pub const WORK: usize = BLOCKS * PAYLOAD;
+/// The least report memory.
+pub const REPORT: usize = 32_768;
+
+/// Bytes of a stream's header and of each record behind it.
+pub const HEADER: usize = 6;
+pub const RECORD: usize = 4;
+
+/// The most processes, operations and steps of a job. There is at least one process and one operation.
+pub const PROCESSES: usize = 8;
+pub const OPERATIONS: usize = 256;
+pub const STEPS: usize = 16_384;

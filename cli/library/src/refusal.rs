@@ -1,0 +1,49 @@
+//! Why a job is turned back: a number of document 01's table, and its sentence.
+
+use std::error::Error;
+use std::fmt;
+
+/// The first condition met, in the order of document 01, by its number.
+#[derive(Clone, Copy, PartialEq, Eq, Hash, Debug)]
+pub struct Refusal(u32);
+
+impl Refusal {
+    pub(crate) fn of(number: u32) -> Refusal {
+        Refusal(number)
+    }
+
+    /// The number of the condition: 2 to 12, since this library lends memory enough.
+    pub fn number(self) -> u32 {
+        self.0
+    }
+
+    /// The condition in words, of a file.
+    pub fn sentence(self) -> &'static str {
+        match self.0 {
+            1 => "the lent memory is too short",
+            2 => "the file's length is 0, over 17,920 bytes or not a multiple of 512",
+            3 => "a block's sum differs: the block is damaged",
+            4 => "a block's number is not its position: blocks were lost or mixed up",
+            5 => "the kind is neither 1, a queue, nor 2, a stack",
+            6 => "the number of processes is not from 1 to 8",
+            7 => "the number of operations is not from 1 to 256",
+            8 => "the schedule is longer than 16,384 steps",
+            9 => "the file does not have exactly the blocks that its header asks for",
+            10 => {
+                "an operation's process is none of the job's, its action is neither a put nor a take, or it is a take with a value"
+            }
+            11 => "a schedule entry is no process of the job",
+            12 => "a byte behind the stream is not zero",
+            _ => "a number that this version does not know",
+        }
+    }
+}
+
+/// `refused 3: a block's sum differs: the block is damaged`
+impl fmt::Display for Refusal {
+    fn fmt(&self, f: &mut fmt::Formatter) -> fmt::Result {
+        write!(f, "refused {}: {}", self.0, self.sentence())
+    }
+}
+
+impl Error for Refusal {}
