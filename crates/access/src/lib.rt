@@ -22,7 +22,7 @@ const CLEAR: u16 = 0;
 const RAISED: u16 = 1;
 
 // The registers of the operation that makes a step, and the cells of shared memory that are no node's.
-pub struct Cells {
+pub struct Scalars {
     pub h: u16,
     pub t: u16,
     pub n: u16,
@@ -44,7 +44,7 @@ pub struct Accessed {
 }
 
 // The answer of an access that leaves cells `c`.
-fn answer(c: Cells, outcome: Outcome, event: Event) -> Accessed
+fn answer(c: Scalars, outcome: Outcome, event: Event) -> Accessed
     ensures { λ d. ⌜ d ≡ answered c outcome event ⌝ }
 {
     Accessed {
@@ -80,7 +80,7 @@ fn yes_if_same(a: u16, b: u16) -> Outcome
 }
 
 // "T1 read Head as h."
-pub fn read_head(mut c: Cells) -> Accessed
+pub fn read_head(mut c: Scalars) -> Accessed
     ensures { λ d. ⌜ ((own : ℕ) → Does-alone ReadHead own c d) ⌝ }
 {
     c.h = c.head;
@@ -88,7 +88,7 @@ pub fn read_head(mut c: Cells) -> Accessed
 }
 
 // "Q1 read Tail as t." "T2 read Tail as t."
-pub fn read_tail(mut c: Cells) -> Accessed
+pub fn read_tail(mut c: Scalars) -> Accessed
     ensures { λ d. ⌜ ((own : ℕ) → Does-alone ReadTail own c d) ⌝ }
 {
     c.t = c.tail;
@@ -96,7 +96,7 @@ pub fn read_tail(mut c: Cells) -> Accessed
 }
 
 // "T3 read h's next as n: if h = t and n is none, end, empty; if h = t, T4; else T5."
-pub fn read_next_of_h(mut c: Cells, next: &[u16]) -> Accessed
+pub fn read_next_of_h(mut c: Scalars, next: &[u16]) -> Accessed
     requires { ⌜ c .h < length (now next) ⌝ }
     ensures { λ d. ⌜ ((own : ℕ) (mark : List ℕ) → Does ReadNextOfH own c (now (next .entry)) mark d (now (next .entry)) mark) ⌝ }
 {
@@ -112,7 +112,7 @@ pub fn read_next_of_h(mut c: Cells, next: &[u16]) -> Accessed
 }
 
 // "Q2 read t's next as n: none, go to Q3; else Q5."
-pub fn read_next_of_t(mut c: Cells, next: &[u16]) -> Accessed
+pub fn read_next_of_t(mut c: Scalars, next: &[u16]) -> Accessed
     requires { ⌜ c .t < length (now next) ⌝ }
     ensures { λ d. ⌜ ((own : ℕ) (mark : List ℕ) → Does ReadNextOfT own c (now (next .entry)) mark d (now (next .entry)) mark) ⌝ }
 {
@@ -123,7 +123,7 @@ pub fn read_next_of_t(mut c: Cells, next: &[u16]) -> Accessed
 }
 
 // "Q3 set t's next from none to the own node: changed, Q4; else Q1."
-pub fn link_own(own: Operation, c: Cells, next: &mut [u16]) -> Accessed
+pub fn link_own(own: Operation, c: Scalars, next: &mut [u16]) -> Accessed
     requires { ⌜ c .t < length (now next) ⌝ }
     ensures { λ d. ⌜ ((mark : List ℕ) → Does Link (own .0) c (now (next .entry)) mark d (now (next .exit)) mark) ⌝ }
 {
@@ -136,7 +136,7 @@ pub fn link_own(own: Operation, c: Cells, next: &mut [u16]) -> Accessed
 }
 
 // "Q4 set Tail from t to the own node"
-pub fn tail_to_own(own: Operation, mut c: Cells) -> Accessed
+pub fn tail_to_own(own: Operation, mut c: Scalars) -> Accessed
     ensures { λ d. ⌜ Does-alone TailToOwn (own .0) c d ⌝ }
 {
     let outcome = yes_if_same(c.tail, c.t);
@@ -145,7 +145,7 @@ pub fn tail_to_own(own: Operation, mut c: Cells) -> Accessed
 }
 
 // "Q5 set Tail from t to n; Q1." "T4 set Tail from t to n; T1."
-pub fn tail_to_n(mut c: Cells) -> Accessed
+pub fn tail_to_n(mut c: Scalars) -> Accessed
     ensures { λ d. ⌜ ((own : ℕ) → Does-alone TailToN own c d) ⌝ }
 {
     let outcome = yes_if_same(c.tail, c.t);
@@ -154,7 +154,7 @@ pub fn tail_to_n(mut c: Cells) -> Accessed
 }
 
 // "T5 set Head from h to n"
-pub fn head_to_n(mut c: Cells) -> Accessed
+pub fn head_to_n(mut c: Scalars) -> Accessed
     ensures { λ d. ⌜ ((own : ℕ) → Does-alone HeadToN own c d) ⌝ }
 {
     if c.head == c.h {
@@ -165,7 +165,7 @@ pub fn head_to_n(mut c: Cells) -> Accessed
 }
 
 // "P1 read Top as t: none, P3; else P2."
-pub fn read_top_to_put(mut c: Cells) -> Accessed
+pub fn read_top_to_put(mut c: Scalars) -> Accessed
     ensures { λ d. ⌜ ((own : ℕ) → Does-alone ReadTopToPut own c d) ⌝ }
 {
     c.t = c.top;
@@ -174,7 +174,7 @@ pub fn read_top_to_put(mut c: Cells) -> Accessed
 }
 
 // "R1 read Top as t: none, end, empty; else R2."
-pub fn read_top_to_take(mut c: Cells) -> Accessed
+pub fn read_top_to_take(mut c: Scalars) -> Accessed
     ensures { λ d. ⌜ ((own : ℕ) → Does-alone ReadTopToTake own c d) ⌝ }
 {
     c.t = c.top;
@@ -185,7 +185,7 @@ pub fn read_top_to_take(mut c: Cells) -> Accessed
 }
 
 // "P2 read t's mark: clear, P3; else P4." "R2 read t's mark: clear, R3; else R5."
-pub fn read_mark(c: Cells, mark: &[u16]) -> Accessed
+pub fn read_mark(c: Scalars, mark: &[u16]) -> Accessed
     requires { ⌜ c .t < length (now mark) ⌝ }
     ensures { λ d. ⌜ ((own : ℕ) (next : List ℕ) → Does ReadMark own c next (now (mark .entry)) d next (now (mark .entry))) ⌝ }
 {
@@ -195,7 +195,7 @@ pub fn read_mark(c: Cells, mark: &[u16]) -> Accessed
 }
 
 // "P3 set Top from t to the own node, whose next becomes t: changed, end, done; else P1."
-pub fn push(own: Operation, mut c: Cells, next: &mut [u16]) -> Accessed
+pub fn push(own: Operation, mut c: Scalars, next: &mut [u16]) -> Accessed
     requires { ⌜ own .0 < length (now next) ⌝ }
     ensures { λ d. ⌜ ((mark : List ℕ) → Does Push (own .0) c (now (next .entry)) mark d (now (next .exit)) mark) ⌝ }
 {
@@ -209,7 +209,7 @@ pub fn push(own: Operation, mut c: Cells, next: &mut [u16]) -> Accessed
 }
 
 // "R3 raise t's mark."
-pub fn raise_mark(c: Cells, mark: &mut [u16]) -> Accessed
+pub fn raise_mark(c: Scalars, mark: &mut [u16]) -> Accessed
     requires { ⌜ c .t < length (now mark) ⌝ }
     ensures { λ d. ⌜ ((own : ℕ) (next : List ℕ) → Does RaiseMark own c next (now (mark .entry)) d next (now (mark .exit))) ⌝ }
 {
@@ -219,7 +219,7 @@ pub fn raise_mark(c: Cells, mark: &mut [u16]) -> Accessed
 }
 
 // "P4", "R4" and "R5 set Top from t to t's next"
-pub fn top_to_next(mut c: Cells, next: &[u16]) -> Accessed
+pub fn top_to_next(mut c: Scalars, next: &[u16]) -> Accessed
     requires { ⌜ c .t < length (now next) ⌝ }
     ensures { λ d. ⌜ ((own : ℕ) (mark : List ℕ) → Does TopToNext own c (now (next .entry)) mark d (now (next .entry)) mark) ⌝ }
 {

@@ -19,7 +19,7 @@ pub laid-none : (m whole : List ℕ) → Laid m m 0 whole whole
 laid-none m whole = record { front = refl; back = refl; size = refl }
 
 -- a part that begins at `at` and now holds new bytes and then what it held
-pub laid-more : {start m rest whole : List ℕ} {at : ℕ} (m′ new : List ℕ) → Laid start m at (new ++ rest) whole → at + length new ≤ length m
+laid-more : {start m rest whole : List ℕ} {at : ℕ} (m′ new : List ℕ) → Laid start m at (new ++ rest) whole → at + length new ≤ length m
     → m′ ≡ take at m ++ (new ++ drop (length new) (drop at m)) → Laid start m′ (at + length new) rest whole
 laid-more {start} {m} {rest} {whole} {at} m′ new l room e =
     let n : ℕ = length new in
@@ -38,12 +38,12 @@ laid-more {start} {m} {rest} {whole} {at} m′ new l room e =
     }
 
 -- one byte
-pub laid-byte : {start m rest whole : List ℕ} {at : ℕ} (x : ℕ) → Laid start m at (x ∷ rest) whole → at < length m → Laid start (set m at x) (at + 1) rest whole
+laid-byte : {start m rest whole : List ℕ} {at : ℕ} (x : ℕ) → Laid start m at (x ∷ rest) whole → at < length m → Laid start (set m at x) (at + 1) rest whole
 laid-byte {start} {m} {rest} {whole} {at} x l room =
     laid-more (set m at x) (x ∷ []) l (omega arith) (set-split m at x room ∙ ap (λ (y : List ℕ). take at m ++ x ∷ y) (ap (λ (k : ℕ). drop k m) (sym (add-one at)) ∙ sym (drop-drop 1 at m)))
 
 -- where nothing is to come
-pub laid-all : {start m whole : List ℕ} {at : ℕ} → Laid start m at [] whole → m ≡ whole ++ drop at start
+laid-all : {start m whole : List ℕ} {at : ℕ} → Laid start m at [] whole → m ≡ whole ++ drop at start
 laid-all {start} {m} {whole} {at} l =
     sym (take-append-drop at m) ∙ ap (λ (x : List ℕ). x ++ drop at m) (sym (append-nil (take at m)) ∙ l .front) ∙ ap (λ (x : List ℕ). whole ++ x) (l .back)
 

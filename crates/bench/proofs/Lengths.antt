@@ -19,7 +19,7 @@ use Rattle.replayer.proofs.Stream.{stream-fits}
 use Rattle.replayer.proofs.Short.{report-short}
 
 -- a number that is 1 under a test is 0 only where the test fails
-pub unless-one : (b : Bool) (n : ℕ) → pick b 1 n ≡ 0 → n ≡ 0
+unless-one : (b : Bool) (n : ℕ) → pick b 1 n ≡ 0 → n ≡ 0
 unfolding pick
 unless-one true n e = absurd (let b : ⊥ = omega arith in b)
 unless-one false n e = e

@@ -29,7 +29,7 @@ unfolding add-bytes
 add-bytes-small s [] h = h
 add-bytes-small s (x ∷ l) h = add-bytes-small (add-byte s x) l (add-byte-small s x)
 
-pub sums-small : (l : List ℕ) → Small (sums l)
+sums-small : (l : List ℕ) → Small (sums l)
 unfolding sums
 sums-small l = add-bytes-small (record { a = 1; b = 0 }) l (record { a = omega arith; b = omega arith })
 
@@ -38,7 +38,7 @@ unfolding payload-of payload-size block-size
 length-payload b size = length-part b 2 payload-size (omega arith)
 
 -- a block's number and payload
-pub front-of : (b : List ℕ) → Bytes b → length b ≡ block-size → take summed-size b ≡ word-bytes (word b 0) ++ payload-of b
+front-of : (b : List ℕ) → Bytes b → length b ≡ block-size → take summed-size b ≡ word-bytes (word b 0) ++ payload-of b
 unfolding summed-size payload-size payload-of block-size
 front-of b h size = take-add 2 payload-size b ∙ ap (λ (t : List ℕ). t ++ take payload-size (drop 2 b)) (word-bytes-at b 0 h (omega arith))
 

@@ -6,7 +6,7 @@ use mathlib.Core.List.{List, _++_}
 use lib.ListN.{length, replicate, length-append, length-replicate}
 use Rattle.basics.specs.Words.{word-bytes}
 use Rattle.block.specs.Block.{payload-size, summed-size}
-use Rattle.block.specs.Answer.{filled}
+use Rattle.block.specs.Checked.{filled}
 
 pub length-filled : (p : List ℕ) → length p ≤ payload-size → length (filled p) ≡ payload-size
 unfolding filled

@@ -1,3 +1,3 @@
 -- The block of a job file, after document 01, "Job files".
 pub mod Block
-pub mod Answer
+pub mod Checked

@@ -10,7 +10,7 @@ ghost use lib.ListN.{length};
 ghost use Rattle.basics.specs.Words.{word-bytes};
 ghost use Rattle.memory.specs.Over.{over};
 ghost use Rattle.block.specs.Block.{block-size, payload-size, summed-size, add-byte, sums, block, block-refusal};
-ghost use Rattle.block.specs.Answer.{number-of, bytes-of, filled};
+ghost use Rattle.block.specs.Checked.{number-of, bytes-of, filled};
 
 // The two sums of a block.
 pub struct Sums {
@@ -43,13 +43,13 @@ impl Sums {
 }
 
 // What a block gives: its payload, or the reason why not.
-pub enum Answer {
+pub enum Checked {
     Payload,
     SumDiffers,
     Misplaced,
 }
 
-impl Answer {
+impl Checked {
     // Bytes of a block.
     pub const BLOCK: usize = 512;
     // Bytes of its payload.
@@ -57,51 +57,51 @@ impl Answer {
     // Where its payload starts.
     const FRONT: usize = 2;
     // Where sum a and sum b stand.
-    const SUM_A: usize = Answer::FRONT + Answer::PAYLOAD;
+    const SUM_A: usize = Checked::FRONT + Checked::PAYLOAD;
 
-    const SUM_B: usize = Answer::SUM_A + 2;
+    const SUM_B: usize = Checked::SUM_A + 2;
 
     // The number in document 01's table, 0 for a payload.
     pub fn number(self) -> u8
         ensures { λ r. ⌜ r ≡ number-of self ⌝ }
     {
         match self {
-            Answer::Payload => 0,
-            Answer::SumDiffers => 3,
-            Answer::Misplaced => 4,
+            Checked::Payload => 0,
+            Checked::SumDiffers => 3,
+            Checked::Misplaced => 4,
         }
     }
 }
 
 // The answer of the block at a position.
-fn check(b: &[u8], position: u16) -> Answer
+fn check(b: &[u8], position: u16) -> Checked
     requires { ⌜ length (now b) ≡ block-size ⌝ }
     ensures { λ r. ⌜ number-of r ≡ block-refusal position (now (b .entry)) ⌝ }
 {
-    let s = Sums::of(&b[..Answer::SUM_A]);
-    if word_at(b, Answer::SUM_A) != s.a {
-        return Answer::SumDiffers;
+    let s = Sums::of(&b[..Checked::SUM_A]);
+    if word_at(b, Checked::SUM_A) != s.a {
+        return Checked::SumDiffers;
     }
-    if word_at(b, Answer::SUM_B) != s.b {
-        return Answer::SumDiffers;
+    if word_at(b, Checked::SUM_B) != s.b {
+        return Checked::SumDiffers;
     }
     if word_at(b, 0) != position {
-        return Answer::Misplaced;
+        return Checked::Misplaced;
     }
-    Answer::Payload
+    Checked::Payload
 }
 
 // What the block at a position gives: its payload goes to the front of a memory, or nothing does.
-pub fn give(b: &[u8], position: u16, to: &mut [u8]) -> Answer
+pub fn give(b: &[u8], position: u16, to: &mut [u8]) -> Checked
     requires { ⌜ (length (now b) ≡ block-size) × (payload-size ≤ length (now to)) ⌝ }
     ensures number { λ r. ⌜ number-of r ≡ block-refusal position (now (b .entry)) ⌝ }
     ensures payload { λ r. ⌜ now (to .exit) ≡ over (bytes-of r (now (b .entry))) (now (to .entry)) ⌝ }
 {
     let answer = check(b, position);
-    let Answer::Payload = answer else {
+    let Checked::Payload = answer else {
         return answer;
     };
-    copy(to, &b[Answer::FRONT..Answer::SUM_A]);
+    copy(to, &b[Checked::FRONT..Checked::SUM_A]);
     answer
 }
 
@@ -112,7 +112,7 @@ fn put_payload(to: &mut [u8], payload: &[u8])
 {
     copy(to, payload);
     let end = payload.len();
-    clear(&mut to[end..Answer::PAYLOAD]);
+    clear(&mut to[end..Checked::PAYLOAD]);
 }
 
 // A block's number and its payload.
@@ -121,7 +121,7 @@ fn put_front(to: &mut [u8], number: u16, payload: &[u8])
     ensures { λ _. ⌜ now (to .exit) ≡ over (word-bytes number ++ filled (now (payload .entry))) (now (to .entry)) ⌝ }
 {
     put_word(to, number);
-    put_payload(&mut to[Answer::FRONT..], payload);
+    put_payload(&mut to[Checked::FRONT..], payload);
 }
 
 // A block's two sums.
@@ -139,6 +139,6 @@ pub fn make(to: &mut [u8], number: u16, payload: &[u8])
     ensures { λ _. ⌜ now (to .exit) ≡ over (block number (filled (now (payload .entry)))) (now (to .entry)) ⌝ }
 {
     put_front(to, number, payload);
-    let s = Sums::of(&to[..Answer::SUM_A]);
-    put_sums(&mut to[Answer::SUM_A..], s);
+    let s = Sums::of(&to[..Checked::SUM_A]);
+    put_sums(&mut to[Checked::SUM_A..], s);
 }

@@ -14,7 +14,7 @@ use Rattle.job.specs.Stream.{kind, processes, operations, schedule-lengt
 use Rattle.job.specs.Refusals.{any, outside, most-processes, most-operations, most-steps, exact-count, bad-kind, bad-processes, bad-operations, bad-schedule-length, bad-record, bad-records, bad-entry, bad-schedule}
 use Rattle.job.proofs.Accepted.{Fine}
 
-pub any-alike : (f g : ℕ → Bool) (i n : ℕ) → ((j : ℕ) → i ≤ j → j < i + n → f j ≡ g j) → any f i n ≡ any g i n
+any-alike : (f g : ℕ → Bool) (i n : ℕ) → ((j : ℕ) → i ≤ j → j < i + n → f j ≡ g j) → any f i n ≡ any g i n
 unfolding any
 any-alike f g i zero h = refl
 any-alike f g i (suc n) h = ap₂ _||_ (h i (omega arith) (omega arith)) (any-alike f g (suc i) n (λ j a b. h j (omega arith) (omega arith)))
@@ -28,19 +28,19 @@ module _ {s t : List ℕ} (a : Alike s t) where
   unfolding word
   word-alike i h = ap₂ (λ (x y : ℕ). 256 * x + y) (a .byte i (omega arith)) (a .byte (suc i) h)
 
-  pub kind-alike : kind s ≡ kind t
+  kind-alike : kind s ≡ kind t
   unfolding kind stream-length
   kind-alike = a .byte 0 (omega arith)
 
-  pub processes-alike : processes s ≡ processes t
+  processes-alike : processes s ≡ processes t
   unfolding processes stream-length
   processes-alike = a .byte 1 (omega arith)
 
-  pub operations-alike : operations s ≡ operations t
+  operations-alike : operations s ≡ operations t
   unfolding operations stream-length
   operations-alike = word-alike 2 (omega arith)
 
-  pub schedule-length-alike : schedule-length s ≡ schedule-length t
+  schedule-length-alike : schedule-length s ≡ schedule-length t
   unfolding schedule-length stream-length
   schedule-length-alike = word-alike 4 (omega arith)
 

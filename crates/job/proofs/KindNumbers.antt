@@ -45,7 +45,7 @@ unfolding look-up
 missing-in [] n none = refl
 missing-in (x ∷ l) n none = pick-else _ _ (unequal-same (none x)) ∙ missing-in l n none
 
-pub found-has-number : {n : ℕ} {k : Kind} → kind-of n ≡ Found k → kind-number k ≡ n
+found-has-number : {n : ℕ} {k : Kind} → kind-of n ≡ Found k → kind-number k ≡ n
 unfolding kind-of
 found-has-number {n} f = found-in kinds n f
 

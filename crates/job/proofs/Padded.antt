@@ -10,7 +10,7 @@ use Rattle.basics.specs.Choice.{less}
 use Rattle.basics.proofs.Choice.{less-le}
 use Rattle.memory.proofs.Over.{length-part}
 use Rattle.block.specs.Block.{block-size, payload-size, block}
-use Rattle.block.specs.Answer.{filled}
+use Rattle.block.specs.Checked.{filled}
 use Rattle.block.proofs.Accepted.{length-block}
 use Rattle.block.proofs.Sizes.{length-filled}
 use Rattle.job.specs.Stream.{operations, schedule-length, stream-length}
@@ -80,7 +80,7 @@ length-own-payload s n j whole more = length-part s (payload-size * j) payload-s
 pub length-own-block : (s : List ℕ) (n j : ℕ) → length s ≡ payload-size * n → j < n → length (block j (take payload-size (drop (payload-size * j) s))) ≡ block-size
 length-own-block s n j whole more = length-block j (take payload-size (drop (payload-size * j) s)) (length-own-payload s n j whole more)
 
-pub length-padded : (s : List ℕ) → length s ≤ payload-size * exact-count s → length (padded s) ≡ payload-size * exact-count s
+length-padded : (s : List ℕ) → length s ≤ payload-size * exact-count s → length (padded s) ≡ payload-size * exact-count s
 unfolding padded zeros
 length-padded s h =
     let z : List ℕ = zeros (payload-size * exact-count s - length s) in

@@ -98,7 +98,7 @@ module _ (file : List ℕ) (g : Good-file file) where
       ∙ take-all (block-size * block-count file) file (omega (arith, g .sized .whole))
 
 -- for every accepted file, the writer takes its stream
-pub read-taken : (file out : List ℕ) → file-refusal file ≡ 0 → most-file ≤ length out → write-number (stream-of file) out ≡ 0
+read-taken : (file out : List ℕ) → file-refusal file ≡ 0 → most-file ≤ length out → write-number (stream-of file) out ≡ 0
 read-taken file out z room-out = good-written (stream-of file) out room-out (stream-good file (accepted-good file z))
 
 -- and makes that very file of it

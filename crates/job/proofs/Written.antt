@@ -26,7 +26,7 @@ use Rattle.job.proofs.Table.{exact-room}
 
 -- a padded stream holds the stream, and zeros behind it
 module _ (s : List ℕ) (size : length s ≡ stream-length s) where
-  pub padded-alike : Alike s (padded s)
+  padded-alike : Alike s (padded s)
   unfolding padded at
   padded-alike = record { byte = λ i h. sym (List·getD-append s (zeros (payload-size * exact-count s - length s)) 0 i (omega arith)) }
 
@@ -46,7 +46,7 @@ module _ (s : List ℕ) (size : length s ≡ stream-length s) where
       any-none (λ i. not (same (at (padded s) i) 0)) (stream-length (padded s)) (length (padded s) - stream-length (padded s))
       (λ i a b. ap not (equal-same (padding-zero i (omega arith) (omega arith))))
 
-  pub padded-stream : take (stream-length (padded s)) (padded s) ≡ s
+  padded-stream : take (stream-length (padded s)) (padded s) ≡ s
   unfolding padded
   padded-stream =
       ap (λ (n : ℕ). take n (padded s)) (sym (stream-length-alike padded-alike))
@@ -108,11 +108,11 @@ written-file-good s g =
     }
 
 -- for every stream that the writer takes, its file is accepted
-pub written-accepted : (s out : List ℕ) → write-number s out ≡ 0 → file-refusal (file-of s) ≡ 0
+written-accepted : (s out : List ℕ) → write-number s out ≡ 0 → file-refusal (file-of s) ≡ 0
 written-accepted s out z = good-accepted (file-of s) (written-file-good s (written-good s out z .1))
 
 -- and holds that stream
-pub written-stream : (s out : List ℕ) → write-number s out ≡ 0 → stream-of (file-of s) ≡ s
+written-stream : (s out : List ℕ) → write-number s out ≡ 0 → stream-of (file-of s) ≡ s
 unfolding stream-of
 written-stream s out z =
     let size : length s ≡ stream-length s = written-good s out z .1 .size in

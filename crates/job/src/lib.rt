@@ -1,5 +1,5 @@
 // The stream of a job: its fields, and the conditions of document 01's table that are about a stream.
-use block::Answer;
+use block::Checked;
 use memory::word_at;
 ghost use mathlib.Core.Path.{_≡_};
 ghost use Prim.Native.Nat.{_+_, _≤_, _<_};
@@ -46,9 +46,9 @@ impl Reply {
     // Blocks of the longest file, its bytes, and those of its joined stream.
     const MOST_BLOCKS: usize = 35;
 
-    pub const MOST_FILE: usize = Reply::MOST_BLOCKS * Answer::BLOCK;
+    pub const MOST_FILE: usize = Reply::MOST_BLOCKS * Checked::BLOCK;
 
-    pub const MOST_STREAM: usize = Reply::MOST_BLOCKS * Answer::PAYLOAD;
+    pub const MOST_STREAM: usize = Reply::MOST_BLOCKS * Checked::PAYLOAD;
 
     // "A refusal gives its number and length 0".
     pub fn refused(number: u8) -> Reply
@@ -109,7 +109,7 @@ pub fn exact_count(s: &[u8]) -> usize
     requires { ⌜ 6 ≤ length (now s) ⌝ }
     ensures { λ r. ⌜ r ≡ exact-count (now (s .entry)) ⌝ }
 {
-    (stream_length(s) as usize + (Answer::PAYLOAD - 1)) / Answer::PAYLOAD
+    (stream_length(s) as usize + (Checked::PAYLOAD - 1)) / Checked::PAYLOAD
 }
 
 fn outside(low: u16, high: u16, n: u16) -> bool

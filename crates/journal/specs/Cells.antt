@@ -48,7 +48,7 @@ noted (Raised t) o k c =
     }
 
 -- the cells of an operation and of an event's item are there
-pub record Room (e : Event) (o start link taken stands : ℕ) : Type 0 where
+pub record HasCells (e : Event) (o start link taken stands : ℕ) : Type 0 where
   pub in-start : o < start
   pub in-link : o < link
   pub in-taken : o < taken

@@ -4,7 +4,7 @@ ghost use Prim.Native.Nat.{_<_, max};
 ghost use lib.ListN.{length};
 ghost use Rattle.basics.specs.Maps.{at, upd};
 ghost use Rattle.basics.specs.Choice.{pick};
-ghost use Rattle.journal.specs.Cells.{cells, noted, earlier, Room};
+ghost use Rattle.journal.specs.Cells.{cells, noted, earlier, HasCells};
 ghost use Rattle.journal.specs.Stored.{Entered};
 use job::Operation;
 use job::Step;
@@ -78,7 +78,7 @@ pub fn note(
     taken: &mut [u16],
     stands: &mut [u16],
 )
-    requires { ⌜ Room event (o .0) (length (now start)) (length (now link)) (length (now taken)) (length (now stands)) ⌝ }
+    requires { ⌜ HasCells event (o .0) (length (now start)) (length (now link)) (length (now taken)) (length (now stands)) ⌝ }
     ensures { λ r. ⌜ cells (now (start .exit)) (now (link .exit)) (now (taken .exit)) (now (stands .exit)) ≡ noted event (o .0) (k .0) (cells (now (start .entry)) (now (link .entry)) (now (taken .entry)) (now (stands .entry))) ⌝ }
 {
     match event {

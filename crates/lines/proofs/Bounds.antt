@@ -3,18 +3,18 @@ use mathlib.Core.Path.{_≡_, refl, sym, ap, subst}
 use mathlib.Core.Logic.{_≢_, ⊎-elim}
 use Prim.Native.Nat.{ℕ, zero, suc, _+_, _-_, _≤_, _<_}
 use native.Mathlib.Omega.{arith}
-use mathlib.Core.List.{List, []}
+use mathlib.Core.List.{List}
 use lib.ListN.{length, set, replicate, List·getD-eq-default}
 use lib.Seq.{getD-set-same, getD-set-other}
 use Rattle.basics.specs.Choice.{same}
 use Rattle.basics.specs.Maps.{at}
 use Rattle.basics.proofs.Choice.{split, unequal-same}
 use Rattle.text.proofs.Each.{Written, written-past}
-use Rattle.lines.specs.Members.{Bounds, Stored}
+use Rattle.lines.specs.Members.{Bounds, CellStored}
 use Rattle.lines.proofs.Spaced.{member, member-out}
 
 -- a store in a cell, and one where there is none
-pub stored-cell : (l : List ℕ) (i n : ℕ) → i < length l → Stored (at l) (at (set l i n)) i n
+pub stored-cell : (l : List ℕ) (i n : ℕ) → i < length l → CellStored (at l) (at (set l i n)) i n
 unfolding at
 stored-cell l i n h =
     record { here = omega (arith, getD-set-same l i n 0 h); elsewhere = λ k other. getD-set-other l i k n 0 other }
@@ -23,7 +23,7 @@ pub no-cell : (l : List ℕ) (i : ℕ) → length l ≤ i → 0 ≡ at l i
 unfolding at
 no-cell l i h = sym (List·getD-eq-default l 0 {n = i} h)
 
-pub stored-nowhere : (l : List ℕ) (i n : ℕ) → length l ≤ i → Stored (at l) (at l) i n
+pub stored-nowhere : (l : List ℕ) (i n : ℕ) → length l ≤ i → CellStored (at l) (at l) i n
 stored-nowhere l i n h = record { here = omega (arith, no-cell l i h); elsewhere = λ k other. refl }
 
 -- the bounds by the last `done` operations from the back, and the first `done` from the front
@@ -34,7 +34,7 @@ pub record Bounded (taken : ℕ → ℕ) (count done : ℕ) (skip beyond : ℕ �
   pub skips : (i : ℕ) → skip i ≤ count
   pub beyonds : (i : ℕ) → beyond i ≤ count
 
-stored-within : {before after : ℕ → ℕ} {i n most : ℕ} → Stored before after i n → n ≤ most → ((k : ℕ) → before k ≤ most) → (k : ℕ) → after k ≤ most
+stored-within : {before after : ℕ → ℕ} {i n most : ℕ} → CellStored before after i n → n ≤ most → ((k : ℕ) → before k ≤ most) → (k : ℕ) → after k ≤ most
 stored-within {before} {after} {i} {n} {most} s h all k =
     ⊎-elim (λ (e : k ≡ i). subst (λ (x : ℕ). after x ≤ most) (sym e) (omega (arith, s .here))) (λ (other : k ≢ i). omega (arith, s .elsewhere k other, all k)) (split k i)
 
@@ -54,7 +54,7 @@ module _ {taken : ℕ → ℕ} {count : ℕ} where
   bounded-all b all =
       record { from = λ o l h. b .from o (omega arith) h; to = λ o l h. b .to o l (omega arith); skips = b .skips; beyonds = b .beyonds }
 
-  module _ {done : ℕ} {skip beyond skip₁ beyond₁ : ℕ → ℕ} (b : Bounded taken count done skip beyond) (more : done < count) (s : Stored skip skip₁ (taken (count - done)) (count - done - 1)) (t : Stored beyond beyond₁ (taken (done + 1)) (count - (done + 1))) where
+  module _ {done : ℕ} {skip beyond skip₁ beyond₁ : ℕ → ℕ} (b : Bounded taken count done skip beyond) (more : done < count) (s : CellStored skip skip₁ (taken (count - done)) (count - done - 1)) (t : CellStored beyond beyond₁ (taken (done + 1)) (count - (done + 1))) where
     from-more : (o : ℕ) → count < o + (done + 1) → o ≤ count → skip₁ (taken o) < o
     from-more o low high =
         ⊎-elim

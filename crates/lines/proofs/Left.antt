@@ -11,7 +11,7 @@ use Rattle.basics.specs.Text.{text, decimal}
 use Rattle.basics.proofs.Choice.{pick-then, pick-else, equal-same, unequal-same}
 use Rattle.job.specs.declared.Kind.{Kind}
 use Rattle.machine.specs.Effects.{sift}
-use Rattle.machine.specs.Report.{spaced, left-line}
+use Rattle.wording.specs.Report.{spaced, left-line}
 use Rattle.machine.specs.Left.{walk}
 use Rattle.lines.specs.Members.{stays, left-from}
 

@@ -9,9 +9,9 @@ use Rattle.basics.specs.Text.{text, decimal}
 use Rattle.basics.proofs.Choice.{pick-then, pick-else, equal-same, unequal-same}
 use Rattle.stage.specs.Printed.{stage-text}
 use Rattle.job.specs.Job.{Job}
-use Rattle.machine.specs.Journal.{Answer}
+use Rattle.machine.specs.Notes.{Answer, note}
 use Rattle.machine.specs.Journal
-use Rattle.machine.specs.Report.{action-text, answer-text, progress-text, operation-line}
+use Rattle.wording.specs.Report.{action-text, answer-text, progress-text, operation-line}
 use Rattle.lines.specs.Told.{said, Told, front-text}
 
 module _ (j : Job) (o : ℕ) {put : Bool} (e : put ≡ j .is-put o) where
@@ -57,16 +57,16 @@ progress j first last a =
     pick (same first 0) (text " first - last - waiting") (text " first " ++ decimal first ++ text " last " ++ ending j last a)
 
 module _ (j : Job) {k o first last link item : ℕ} (t : Told j k o first last link item) where
-  as-told : progress j first last (Journal.answer j k o) ≡ progress-text j k o
+  as-told : progress j first last (Journal.answer (note j) k o) ≡ progress-text j k o
   unfolding progress-text
-  as-told = ap₂ (λ (f l : ℕ). progress j f l (Journal.answer j k o)) (t .begins) (t .ends)
+  as-told = ap₂ (λ (f l : ℕ). progress j f l (Journal.answer (note j) k o)) (t .begins) (t .ends)
 
   pub not-begun : first ≡ 0 → text " first - last - waiting" ≡ progress-text j k o
   not-begun z = sym (pick-then _ _ (equal-same z)) ∙ as-told
 
-  pub begun : first ≢ 0 → text " first " ++ decimal first ++ (text " last " ++ ending j last (Journal.answer j k o)) ≡ progress-text j k o
+  pub begun : first ≢ 0 → text " first " ++ decimal first ++ (text " last " ++ ending j last (Journal.answer (note j) k o)) ≡ progress-text j k o
   begun z =
-      sym (append-assoc (text " first " ++ decimal first) (text " last ") (ending j last (Journal.answer j k o)))
+      sym (append-assoc (text " first " ++ decimal first) (text " last ") (ending j last (Journal.answer (note j) k o)))
       ∙ sym (pick-else (text " first - last - waiting") _ (unequal-same z))
       ∙ as-told
 

@@ -7,14 +7,14 @@ use Rattle.basics.specs.Choice.{same}
 use Rattle.basics.specs.Text.{text, decimal}
 use Rattle.basics.proofs.Choice.{pick-then, pick-else}
 use Rattle.machine.specs.Effects.{numbers, sift}
-use Rattle.machine.specs.Report.{spaced}
+use Rattle.wording.specs.Report.{spaced}
 use Rattle.machine.proofs.Lists.{sift-append}
 use Rattle.text.specs.Laid.{Wrote}
 use Rattle.text.proofs.Rest.{Rest, rest-none}
 use Rattle.text.proofs.Each.{each-to}
 use Rattle.lines.specs.Members.{takers-of}
 
-pub spaced-append : (a b : List ℕ) → spaced (a ++ b) ≡ spaced a ++ spaced b
+spaced-append : (a b : List ℕ) → spaced (a ++ b) ≡ spaced a ++ spaced b
 unfolding spaced
 spaced-append [] b = refl
 spaced-append (x ∷ a) b =

@@ -24,7 +24,7 @@ pub record Bounds (taken : ℕ → ℕ) (count : ℕ) (skip beyond : ℕ → ℕ
   pub beyonds : (i : ℕ) → beyond i ≤ count
 
 -- a number was stored in a cell, if there is one: no cell reads as 0
-pub record Stored (before after : ℕ → ℕ) (i n : ℕ) : Type 0 where
+pub record CellStored (before after : ℕ → ℕ) (i n : ℕ) : Type 0 where
   pub here : after i ≤ n
   pub elsewhere : (k : ℕ) → k ≢ i → after k ≡ before k
 
@@ -38,7 +38,7 @@ unfoldable pub left-from : Kind → (ℕ → ℕ) → (ℕ → ℕ) → ℕ → 
 left-from object next mark node count = sift (stays object mark) (walk next node count)
 
 -- the nodes 0 to `count` are in both arrays, every next is one of them, and so is the first
-pub record Nodes (next mark : List ℕ) (count node : ℕ) : Type 0 where
+pub record NodesThere (next mark : List ℕ) (count node : ℕ) : Type 0 where
   pub nexts : count < length next
   pub marks : count < length mark
   pub within : (i : ℕ) → i ≤ count → at next i ≤ count

@@ -17,10 +17,10 @@ ghost use Rattle.text.specs.Laid.{Wrote};
 ghost use Rattle.job.specs.Stream.{record-at};
 ghost use Rattle.job.specs.Job.{job-of};
 ghost use Rattle.machine.specs.Multiplicity.{Line};
-ghost use Rattle.machine.specs.Journal.{Answer};
-ghost use Rattle.machine.specs.Report.{object-line, action-text, answer-text, progress-text, operation-line, spaced, effect-text, record-line, left-line};
+ghost use Rattle.machine.specs.Notes.{Answer};
+ghost use Rattle.wording.specs.Report.{object-line, action-text, answer-text, progress-text, operation-line, spaced, effect-text, record-line, left-line};
 ghost use Rattle.lines.specs.Told.{said, Told, front-text};
-ghost use Rattle.lines.specs.Members.{takers-of, Bounds, Stored, stays, left-from, Nodes};
+ghost use Rattle.lines.specs.Members.{takers-of, Bounds, CellStored, stays, left-from, NodesThere};
 
 // Where the record of an operation stands in a stream.
 fn record_at(o: Operation) -> usize
@@ -207,7 +207,7 @@ fn cell(cells: &[u16], i: u16) -> u16
 
 // Stores a number in a cell, if there is one.
 fn store(cells: &mut [u16], i: u16, n: u16)
-    ensures { λ _. ⌜ Stored (Maps.at (now (cells .entry))) (Maps.at (now (cells .exit))) i n ⌝ }
+    ensures { λ _. ⌜ CellStored (Maps.at (now (cells .entry))) (Maps.at (now (cells .exit))) i n ⌝ }
 {
     let place = i as usize;
     if place < cells.len() {
@@ -305,7 +305,7 @@ fn stays(object: Kind, mark: &[u16], node: u16) -> bool
 
 // How many items are left, from a node on.
 fn left_count(object: Kind, next: &[u16], mark: &[u16], node: u16, count: u16) -> u16
-    requires { ⌜ Nodes (now next) (now mark) count node ⌝ }
+    requires { ⌜ NodesThere (now next) (now mark) count node ⌝ }
     ensures { λ r. ⌜ r ≡ length (left-from object (Maps.at (now (next .entry))) (Maps.at (now (mark .entry))) node count) ⌝ }
 {
     let mut total: u16 = 0;
@@ -335,7 +335,7 @@ fn put_left(
     node: u16,
     count: u16,
 ) -> usize
-    requires { ⌜ Nodes (now next) (now mark) count node ⌝ }
+    requires { ⌜ NodesThere (now next) (now mark) count node ⌝ }
     requires { ⌜ at + length (spaced (left-from object (Maps.at (now next)) (Maps.at (now mark)) node count)) ≤ length (now out) ⌝ }
     ensures { λ r. ⌜ Wrote (now (out .entry)) (now (out .exit)) at r (spaced (left-from object (Maps.at (now (next .entry))) (Maps.at (now (mark .entry))) node count)) ⌝ }
 {
@@ -366,7 +366,7 @@ pub fn left_line(
     node: u16,
     count: u16,
 ) -> usize
-    requires { ⌜ Nodes (now next) (now mark) count node ⌝ }
+    requires { ⌜ NodesThere (now next) (now mark) count node ⌝ }
     requires { ⌜ at + length (left-line (left-from object (Maps.at (now next)) (Maps.at (now mark)) node count)) ≤ length (now out) ⌝ }
     ensures { λ r. ⌜ Wrote (now (out .entry)) (now (out .exit)) at r (left-line (left-from object (Maps.at (now (next .entry))) (Maps.at (now (mark .entry))) node count)) ⌝ }
 {

@@ -1,28 +1,28 @@
 -- Every register and every cell of a run holds a number of 0 to N, every operation in hand one of 1 to N + 1, and no place stands at an
 -- end: all that the safety of code needs. Assumes nothing.
-use mathlib.Core.Path.{_≡_}
+use mathlib.Core.Path.{_≡_, refl}
 use Prim.Native.Nat.{ℕ, zero, suc, _-_, _≤_, zero-le}
 use native.Mathlib.Omega.{arith}
-use mathlib.Core.Bool.{false}
-use Rattle.basics.specs.Choice.{same}
+use mathlib.Core.Bool.{Bool, true, false}
+use Rattle.basics.specs.Choice.{pick, same}
 use Rattle.basics.specs.Maps.{upd}
 use Rattle.basics.proofs.Choice.{pick-elim, less-le}
 use Rattle.basics.proofs.Maps.{upd-elim}
+use Rattle.job.specs.declared.Kind.{Kind}
+use Rattle.job.specs.declared.Kind.the-variants.{Queue, Stack}
 use Rattle.job.specs.Job.{Job}
 use Rattle.machine.specs.declared.Place.{Place}
-use Rattle.machine.specs.declared.Event.{Event}
 use Rattle.machine.specs.declared.Access.{Access}
 use Rattle.machine.specs.declared.Access.the-variants.{ReadHead, ReadTail, ReadNextOfH, ReadNextOfT, Link, TailToOwn, TailToN, HeadToN, ReadTopToPut, ReadTopToTake, ReadMark, Push, RaiseMark, TopToNext}
 use Rattle.machine.specs.declared.Outcome.{Outcome}
 use Rattle.machine.specs.declared.Outcome.the-variants.{Yes, No, Bare}
-use Rattle.machine.specs.Memory.{Memory, fresh-memory, with-head, with-tail, with-top, with-next, with-mark}
-use Rattle.machine.specs.Access.{Registers, Reached}
-use Rattle.machine.specs.Run.{State, operation-after, before, fresh-state, ended, registers, reached, row-after, place-after, resting, step, state-after}
-use Rattle.machine.specs.Journal.{Answer, item-of, event-of}
-use Rattle.machine.proofs.Operations.{Local, reaches, local-after}
-use Rattle.machine.proofs.Operations.Hands.{seek-from, seek-to, begins-going}
-use Rattle.machine.proofs.Turn.{Turn, turn}
-use Rattle.machine.proofs.Turn.Turn.{q1, q2-last, q2-more, q3-links, q3-fails, q4-moves, q4-stays, q5-moves, q5-stays, t1, t2, t3-empty, t3-helps, t3-goes, t4-moves, t4-stays, t5-moves, t5-late, p1-none, p1-some, p2-clear, p2-raised, p3-pushes, p3-fails, p4-moves, p4-stays, r1-none, r1-some, r2-clear, r2-raised, r3, r4-moves, r4-stays, r5-moves, r5-stays}
+use Rattle.machine.specs.Memory.{Memory, fresh-memory, set-from-to, with-head, with-tail, with-top, with-next, with-mark}
+use Rattle.machine.specs.Table.{row-of, end-of, is-end, ended, first-row}
+use Rattle.machine.specs.Access.{Registers, Reached, have-read, have-set, access}
+use Rattle.machine.specs.Run.{State, operation-after, before, fresh-state, reach, registers, reached, row-after, place-after, resting, step, state-after}
+use Rattle.machine.specs.Notes.{event-of}
+use Rattle.machine.specs.Journal.{item-of}
+use Rattle.machine.proofs.Searches.{seek-from, seek-to}
 
 -- every cell of shared memory holds at most N
 pub record MemoryWithin (N : ℕ) (m : Memory) : Type 0 where
@@ -37,50 +37,36 @@ pub record RegistersWithin (N : ℕ) (r : Registers) : Type 0 where
   pub t : r .t ≤ N
   pub n : r .n ≤ N
 
-pub record TurnWithin (N : ℕ) (m : Memory) (r : Registers) : Type 0 where
+pub record ReachedWithin (N : ℕ) (m : Memory) (r : Registers) : Type 0 where
   pub memory : MemoryWithin N m
   pub own : RegistersWithin N r
 
-stored-within : (N : ℕ) (f : ℕ → ℕ) (i v : ℕ) → ((x : ℕ) → f x ≤ N) → v ≤ N → (x : ℕ) → upd f i v x ≤ N
-stored-within N f i v old new x = upd-elim (λ y. y ≤ N) f i v x (λ e. new) (λ e. old x)
+-- «Set A from b to c» stores c, or nothing
+set-within : (N : ℕ) {a c : ℕ} (b : ℕ) → a ≤ N → c ≤ N → set-from-to a b c ≤ N
+unfolding set-from-to
+set-within N {a} {c} b old new = pick-elim (λ x. x ≤ N) (same a b) c a (λ t. new) (λ t. old)
 
-turn-within : (N : ℕ) {o : ℕ} {m m′ : Memory} {l l′ : Local} {e : Event} {a : Answer} → o ≤ N → MemoryWithin N m → RegistersWithin N (l .registers) → Turn o m l m′ l′ e a → TurnWithin N m′ (l′ .registers)
-unfolding with-head with-tail with-top with-next with-mark
-turn-within N own m l q1 = record { memory = m; own = record { h = l .h; t = m .tail; n = l .n } }
-turn-within N own m l (q2-last e) = record { memory = m; own = record { h = l .h; t = l .t; n = m .next _ } }
-turn-within N own m l (q2-more e) = record { memory = m; own = record { h = l .h; t = l .t; n = m .next _ } }
-turn-within N own m l (q3-links e) = record { memory = record { head = m .head; tail = m .tail; top = m .top; next = stored-within N _ _ _ (m .next) own }; own = l }
-turn-within N own m l (q3-fails e) = record { memory = m; own = l }
-turn-within N own m l (q4-moves e) = record { memory = record { head = m .head; tail = own; top = m .top; next = m .next }; own = l }
-turn-within N own m l (q4-stays e) = record { memory = m; own = l }
-turn-within N own m l (q5-moves e) = record { memory = record { head = m .head; tail = l .n; top = m .top; next = m .next }; own = l }
-turn-within N own m l (q5-stays e) = record { memory = m; own = l }
-turn-within N own m l t1 = record { memory = m; own = record { h = m .head; t = l .t; n = l .n } }
-turn-within N own m l t2 = record { memory = m; own = record { h = l .h; t = m .tail; n = l .n } }
-turn-within N own m l (t3-empty e f) = record { memory = m; own = record { h = l .h; t = l .t; n = m .next _ } }
-turn-within N own m l (t3-helps e f) = record { memory = m; own = record { h = l .h; t = l .t; n = m .next _ } }
-turn-within N own m l (t3-goes e) = record { memory = m; own = record { h = l .h; t = l .t; n = m .next _ } }
-turn-within N own m l (t4-moves e) = record { memory = record { head = m .head; tail = l .n; top = m .top; next = m .next }; own = l }
-turn-within N own m l (t4-stays e) = record { memory = m; own = l }
-turn-within N own m l (t5-moves e) = record { memory = record { head = l .n; tail = m .tail; top = m .top; next = m .next }; own = l }
-turn-within N own m l (t5-late e) = record { memory = m; own = l }
-turn-within N own m l (p1-none e) = record { memory = m; own = record { h = l .h; t = m .top; n = l .n } }
-turn-within N own m l (p1-some e) = record { memory = m; own = record { h = l .h; t = m .top; n = l .n } }
-turn-within N own m l (p2-clear e) = record { memory = m; own = l }
-turn-within N own m l (p2-raised e) = record { memory = m; own = l }
-turn-within N own m l (p3-pushes e) = record { memory = record { head = m .head; tail = m .tail; top = own; next = stored-within N _ _ _ (m .next) (l .t) }; own = l }
-turn-within N own m l (p3-fails e) = record { memory = m; own = l }
-turn-within N own m l (p4-moves e) = record { memory = record { head = m .head; tail = m .tail; top = m .next _; next = m .next }; own = l }
-turn-within N own m l (p4-stays e) = record { memory = m; own = l }
-turn-within N own m l (r1-none e) = record { memory = m; own = record { h = l .h; t = m .top; n = l .n } }
-turn-within N own m l (r1-some e) = record { memory = m; own = record { h = l .h; t = m .top; n = l .n } }
-turn-within N own m l (r2-clear e) = record { memory = m; own = l }
-turn-within N own m l (r2-raised e) = record { memory = m; own = l }
-turn-within N own m l r3 = record { memory = record { head = m .head; tail = m .tail; top = m .top; next = m .next }; own = l }
-turn-within N own m l (r4-moves e) = record { memory = record { head = m .head; tail = m .tail; top = m .next _; next = m .next }; own = l }
-turn-within N own m l (r4-stays e) = record { memory = m; own = l }
-turn-within N own m l (r5-moves e) = record { memory = record { head = m .head; tail = m .tail; top = m .next _; next = m .next }; own = l }
-turn-within N own m l (r5-stays e) = record { memory = m; own = l }
+-- a map with one cell stored, or as it was
+map-within : (N : ℕ) (f : ℕ → ℕ) (i v : ℕ) (stores : Bool) → ((x : ℕ) → f x ≤ N) → v ≤ N → (x : ℕ) → pick stores (upd f i v) f x ≤ N
+map-within N f i v stores old new = pick-elim (λ g. (x : ℕ) → g x ≤ N) stores (upd f i v) f (λ t x. upd-elim (λ y. y ≤ N) f i v x (λ e. new) (λ e. old x)) (λ t. old)
+
+-- every access keeps them so
+access-within : (N : ℕ) (a : Access) {own : ℕ} {m : Memory} {r : Registers} → own ≤ N → MemoryWithin N m → RegistersWithin N r → ReachedWithin N (access a own m r .memory) (access a own m r .registers)
+unfolding access have-read have-set with-head with-tail with-top with-next with-mark
+access-within N ReadHead own m r = record { memory = m; own = record { h = m .head; t = r .t; n = r .n } }
+access-within N ReadTail own m r = record { memory = m; own = record { h = r .h; t = m .tail; n = r .n } }
+access-within N ReadNextOfH own m r = record { memory = m; own = record { h = r .h; t = r .t; n = m .next _ } }
+access-within N ReadNextOfT own m r = record { memory = m; own = record { h = r .h; t = r .t; n = m .next _ } }
+access-within N Link own m r = record { memory = record { head = m .head; tail = m .tail; top = m .top; next = map-within N _ _ _ _ (m .next) own }; own = r }
+access-within N TailToOwn own m r = record { memory = record { head = m .head; tail = set-within N _ (m .tail) own; top = m .top; next = m .next }; own = r }
+access-within N TailToN own m r = record { memory = record { head = m .head; tail = set-within N _ (m .tail) (r .n); top = m .top; next = m .next }; own = r }
+access-within N HeadToN own m r = record { memory = record { head = set-within N _ (m .head) (r .n); tail = m .tail; top = m .top; next = m .next }; own = r }
+access-within N ReadTopToPut own m r = record { memory = m; own = record { h = r .h; t = m .top; n = r .n } }
+access-within N ReadTopToTake own m r = record { memory = m; own = record { h = r .h; t = m .top; n = r .n } }
+access-within N ReadMark own m r = record { memory = m; own = r }
+access-within N Push own m r = record { memory = record { head = m .head; tail = m .tail; top = set-within N _ (m .top) own; next = map-within N _ _ _ _ (m .next) (r .t) }; own = r }
+access-within N RaiseMark own m r = record { memory = record { head = m .head; tail = m .tail; top = m .top; next = m .next }; own = r }
+access-within N TopToNext own m r = record { memory = record { head = m .head; tail = m .tail; top = set-within N _ (m .top) (m .next _); next = m .next }; own = r }
 
 -- the item of an event is one of the registers, or 0
 pub item-within : (N : ℕ) (r : Registers) → RegistersWithin N r → (a : Access) (o : Outcome) → item-of (event-of a o r) ≤ N
@@ -106,6 +92,14 @@ item-within N r w Push Bare = zero-le
 item-within N r w RaiseMark o = w .t
 item-within N r w TopToNext o = zero-le
 
+-- an operation does not begin at an end
+pub begins-going : (kind : Kind) (put : Bool) → ended (first-row kind put) ≡ false
+unfolding ended end-of is-end first-row
+begins-going Queue true = refl
+begins-going Queue false = refl
+begins-going Stack true = refl
+begins-going Stack false = refl
+
 -- a place: its operation, its registers, and a row that is no end
 pub record PlaceWithin (N : ℕ) (p : Place) : Type 0 where
   pub from-one : 1 ≤ p .operation .0
@@ -128,11 +122,9 @@ module _ (j : Job) where
         going = begins-going (j .object) (j .is-put (operation-after j p o));
       }
 
-  pub reached-within : (m : Memory) (p : Place) → p .operation .0 ≤ j .count → MemoryWithin (j .count) m → PlaceWithin (j .count) p → TurnWithin (j .count) (reached m p .memory) (reached m p .registers)
-  unfolding reached reaches local-after
-  reached-within m p small memory place =
-      turn-within (j .count) small memory (place .own)
-      (turn (p .operation .0) m (record { row = p .row; registers = registers p }) (place .going))
+  pub reached-within : (m : Memory) (p : Place) → p .operation .0 ≤ j .count → MemoryWithin (j .count) m → PlaceWithin (j .count) p → ReachedWithin (j .count) (reached m p .memory) (reached m p .registers)
+  unfolding reached reach
+  reached-within m p small memory place = access-within (j .count) (row-of (p .row) .access) small memory (place .own)
 
   place-after-within : (process : ℕ) (p : Place) (a : Reached) → p .operation .0 ≤ j .count → PlaceWithin (j .count) p → RegistersWithin (j .count) (a .registers) → PlaceWithin (j .count) (place-after j process p a)
   unfolding place-after registers
@@ -158,7 +150,7 @@ module _ (j : Job) where
       (λ rests. w)
       (λ acts.
       let small : p .operation .0 ≤ j .count = less-le acts in
-      let t : TurnWithin (j .count) (a .memory) (a .registers) = reached-within (s .memory) p small (w .memory) (w .place process) in
+      let t : ReachedWithin (j .count) (a .memory) (a .registers) = reached-within (s .memory) p small (w .memory) (w .place process) in
       record {
         memory = t .memory;
         place = λ q.

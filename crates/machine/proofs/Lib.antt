@@ -1,19 +1,9 @@
--- Demand 3: why the record explains every run. Read in this order.
+-- The laws by which everything above uses the definitions: lists and searches, what one more step does to a search, the step table as turns,
+-- an effect by its cases, the record by its steps, and the bounds of every cell.
 pub mod Lists
 pub mod Searches
-pub mod Operations
-pub mod Turn
 pub mod Stamps
+pub mod Turns
+pub mod Effected
+pub mod Placed
 pub mod Bounds
-pub mod Life
-pub mod Standing
-pub mod Lines
-pub mod TakesAt
-pub mod Laws
-pub mod Applies
-pub mod Nodes
-pub mod Explains
-pub mod Queue
-pub mod Stack
-pub mod Theorem
-pub mod Sizes

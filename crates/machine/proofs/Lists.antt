@@ -55,27 +55,13 @@ sift-agrees f g (x ∷ l) h =
     let rest : sift f l ≡ sift g l = sift-agrees f g l (λ y m. h y (List·Memᴰ·tail m)) in
     rw (h x (List·Memᴰ·head refl)) (ap (λ r. pick (g x) (x ∷ r) r) rest)
 
--- a test that all members meet keeps all; one that none meets keeps none
+-- a test that all members meet keeps all
 pub sift-all : (f : ℕ → Bool) (l : List ℕ) → ((x : ℕ) → List·Memᴰ x l → f x ≡ true) → sift f l ≡ l
 unfolding sift
 sift-all f [] h = refl
 sift-all f (x ∷ l) h =
     let rest : sift f l ≡ l = sift-all f l (λ y m. h y (List·Memᴰ·tail m)) in
     rw (h x (List·Memᴰ·head refl), pick-true) (ap (λ r. x ∷ r) rest)
-
-pub sift-none : (f : ℕ → Bool) (l : List ℕ) → ((x : ℕ) → List·Memᴰ x l → f x ≡ false) → sift f l ≡ []
-unfolding sift
-sift-none f [] h = refl
-sift-none f (x ∷ l) h =
-    let rest : sift f l ≡ [] = sift-none f l (λ y m. h y (List·Memᴰ·tail m)) in
-    rw (h x (List·Memᴰ·head refl), pick-false) rest
-
-pub sift-shortens : (f : ℕ → Bool) (l : List ℕ) → length (sift f l) ≤ length l
-unfolding sift
-sift-shortens f [] = omega arith
-sift-shortens f (x ∷ l) =
-    let rest : length (sift f l) ≤ length l = sift-shortens f l in
-    pick-elim (λ r. length r ≤ suc (length l)) (f x) (x ∷ sift f l) (sift f l) (λ p. omega arith) (λ p. omega arith)
 
 -- the numbers 1 to n are those
 pub numbers-in : (n : ℕ) {x : ℕ} → 1 ≤ x → x ≤ n → List·Memᴰ x (numbers n)
@@ -105,7 +91,7 @@ pub data Distinct : List ℕ → Type 0 where
   none : Distinct []
   more : {x : ℕ} {l : List ℕ} → (List·Memᴰ x l → ⊥) → Distinct l → Distinct (x ∷ l)
 
-pub distinct-append : {a b : List ℕ} → Distinct a → Distinct b → ((x : ℕ) → List·Memᴰ x a → List·Memᴰ x b → ⊥) → Distinct (a ++ b)
+distinct-append : {a b : List ℕ} → Distinct a → Distinct b → ((x : ℕ) → List·Memᴰ x a → List·Memᴰ x b → ⊥) → Distinct (a ++ b)
 distinct-append none d apart = d
 distinct-append {b} (more {x = x} {l = a} fresh c) d apart = more (λ m. go (List·Memᴰ·append-cases a m)) (distinct-append c d (λ y m n. apart y (List·Memᴰ·tail m) n))
   where

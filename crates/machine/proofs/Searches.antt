@@ -1,12 +1,13 @@
--- Laws of the searches `earliest`, `latest` and `largest`: what one more step does to them, that what they find meets the test and is
+-- Laws of the searches `earliest`, `latest`, `largest` and `seek`: what one more step does to them, that what they find meets the test and is
 -- the least or greatest that does, and that nothing was there if they find nothing. Assumes nothing.
 use mathlib.Core.Path.{_≡_, refl, sym, ap, _∙_}
 use mathlib.Core.Logic.{_≢_, _⊎_, inl, inr}
-use Prim.Native.Nat.{ℕ, zero, suc, _≤_, _<_, max}
+use Prim.Native.Nat.{ℕ, zero, suc, _+_, _≤_, _<_, max}
 use mathlib.Core.Bool.{Bool, true, false, true≢false}
 use mathlib.Core.List.{List, [], _∷_, List·Memᴰ, List·Memᴰ·head, List·Memᴰ·tail}
 use native.Mathlib.Omega.{arith, max-cases}
-use Rattle.basics.proofs.Choice.{both, split, compare, pick-then, pick-else, equal-same, unequal-same}
+use Rattle.basics.proofs.Choice.{both, split, compare, pick-then, pick-else, pick-elim, equal-same, unequal-same}
+use Rattle.machine.specs.Run.{seek}
 use Rattle.machine.specs.Journal.{earliest, latest}
 use Rattle.machine.specs.Effects.{largest}
 
@@ -28,7 +29,7 @@ module _ (f : ℕ → Bool) where
   latest-zero = refl
 
   -- one more step: what was found stays
-  pub earliest-stays-next : (k : ℕ) → earliest f k ≢ 0 → earliest f (suc k) ≡ earliest f k
+  earliest-stays-next : (k : ℕ) → earliest f k ≢ 0 → earliest f (suc k) ≡ earliest f k
   unfolding earliest
   earliest-stays-next k n = pick-else _ _ (unequal-same n)
 
@@ -84,7 +85,7 @@ module _ (f : ℕ → Bool) where
       by-cases (inr b) below = earliest-stays-next l (λ z. n (sym (below b n) ∙ z)) ∙ below b n
 
   -- no step before it meets the test, and no step at all if it is 0
-  pub earliest-none : (k s : ℕ) → earliest f k ≡ 0 → 1 ≤ s → s ≤ k → f s ≡ false
+  earliest-none : (k s : ℕ) → earliest f k ≡ 0 → 1 ≤ s → s ≤ k → f s ≡ false
   earliest-none zero s z low high = absurd (omega arith)
   earliest-none (suc k) s z low high = by-cases (last-or-before high) (both (f (suc k))) (split (earliest f k) 0) (earliest-none k s)
     where
@@ -168,3 +169,21 @@ largest-attained f (y ∷ ys) n = max-cases (f y) (largest f ys) _ (tail-is (lar
 
     head-is : largest f ys ≤ f y → max (f y) (largest f ys) ≡ f y → (x : ℕ) × List·Memᴰ x (y ∷ ys) × (f x ≡ max (f y) (largest f ys))
     head-is h e = (y, List·Memᴰ·head refl, sym e)
+
+-- `seek`: not before its start, not past its count
+pub seek-from : (f : ℕ → Bool) (start count : ℕ) → start ≤ seek f start count
+unfolding seek
+seek-from f start zero = omega arith
+seek-from f start (suc count) = pick-elim (λ x. start ≤ x) (f start) start (seek f (suc start) count) (λ t. omega arith) (λ e. omega (arith, seek-from f (suc start) count))
+
+pub seek-to : (f : ℕ → Bool) (start count : ℕ) → seek f start count ≤ start + count
+unfolding seek
+seek-to f start zero = omega arith
+seek-to f start (suc count) = pick-elim (λ x. x ≤ start + suc count) (f start) start (seek f (suc start) count) (λ t. omega arith) (λ e. omega (arith, seek-to f (suc start) count))
+
+-- what it finds meets the test
+pub seek-meets : (f : ℕ → Bool) (start count : ℕ) → seek f start count < start + count → f (seek f start count) ≡ true
+unfolding seek
+seek-meets f start zero = λ h. absurd (omega arith)
+seek-meets f start (suc count) =
+    pick-elim (λ x. x < start + suc count → f x ≡ true) (f start) start (seek f (suc start) count) (λ t h. t) (λ e h. seek-meets f (suc start) count (omega arith))

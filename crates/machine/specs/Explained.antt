@@ -13,7 +13,8 @@ use Rattle.job.specs.declared.Kind.the-variants.{Stack}
 use Rattle.job.specs.Job.{Job}
 use Rattle.machine.specs.Multiplicity.{Line, play}
 use Rattle.machine.specs.Multiplicity.Line.{put, takes, empty}
-use Rattle.machine.specs.Journal.{Answer, first, last, answer, link, taken}
+use Rattle.machine.specs.Notes.{Answer, note}
+use Rattle.machine.specs.Journal.{first, last, answer, link, taken}
 use Rattle.machine.specs.Effects.{takers, latest-start, took-effect, Precedes, Overlap}
 use Rattle.machine.specs.Record.{Recorded, the-record, lines-of}
 use Rattle.machine.specs.Left.{left}
@@ -52,15 +53,15 @@ pub record Answered (j : Job) (k o : ℕ) : Type 0 where
   pub place : Recorded
   pub recorded : List·Memᴰ place (the-record j k)
   pub once : times o (the-record j k) ≡ 1
-  pub its-answer : Says (place .line) o (answer j k o)
-  pub from-first : first j k o ≤ place .step
-  pub to-last : place .step ≤ last j k o
+  pub its-answer : Says (place .line) o (answer (note j) k o)
+  pub from-first : first (note j) k o ≤ place .step
+  pub to-last : place .step ≤ last (note j) k o
 
 -- "One that has not ended took effect exactly if it is a put whose changing step above was made, or a stack take that is a member above":
 -- it is in the record as the put of its item, at that step, or among the takes of the item on which it ran R3, where their line stands
 pub data OpenLine (j : Job) (k o : ℕ) : Recorded → Type 0 where
-  its-put : j .is-put o ≡ true → link j k o ≢ 0 → OpenLine j k o (record { step = link j k o; line = put o })
-  its-takes : j .is-put o ≡ false → j .object ≡ Stack → taken j k o ≢ 0 → List·Memᴰ o (takers j k (taken j k o)) → OpenLine j k o (record { step = latest-start j k (taken j k o); line = takes (taken j k o) (takers j k (taken j k o)) })
+  its-put : j .is-put o ≡ true → link (note j) k o ≢ 0 → OpenLine j k o (record { step = link (note j) k o; line = put o })
+  its-takes : j .is-put o ≡ false → j .object ≡ Stack → taken (note j) k o ≢ 0 → List·Memᴰ o (takers (note j) (j .count) k (taken (note j) k o)) → OpenLine j k o (record { step = latest-start (note j) (j .count) k (taken (note j) k o); line = takes (taken (note j) k o) (takers (note j) (j .count) k (taken (note j) k o)) })
 
 -- "An unanswered one is in it once exactly when it took effect […] and never before its first step."
 pub record InEffect (j : Job) (k o : ℕ) : Type 0 where
@@ -68,8 +69,8 @@ pub record InEffect (j : Job) (k o : ℕ) : Type 0 where
   pub recorded : List·Memᴰ place (the-record j k)
   pub its-line : OpenLine j k o place
   pub once : times o (the-record j k) ≡ 1
-  pub begun : first j k o ≢ 0
-  pub from-first : first j k o ≤ place .step
+  pub begun : first (note j) k o ≢ 0
+  pub from-first : first (note j) k o ≤ place .step
 
 -- the number of put lines, and of takers' lines
 unfoldable pub put-lines : List Line → ℕ
@@ -84,10 +85,10 @@ take-lines (put o ∷ l) = take-lines l
 take-lines (takes item takers ∷ l) = suc (take-lines l)
 take-lines (empty o ∷ l) = take-lines l
 
--- is it an operation of the job?
-pub record Operation (j : Job) (o : ℕ) : Type 0 where
+-- is it one of so many operations?
+pub record IsOperation (count o : ℕ) : Type 0 where
   pub from-one : 1 ≤ o
-  pub to-count : o ≤ j .count
+  pub to-count : o ≤ count
 
 pub record Explained (j : Job) (k : ℕ) : Type 0 where
   -- "only lines that the queue or stack with multiplicity allows, each after all those before it; and at its end the contents are
@@ -96,15 +97,15 @@ pub record Explained (j : Job) (k : ℕ) : Type 0 where
   -- "Lines stand in the order of their steps."
   pub ascending : Ascending (the-record j k)
   -- "Every answered operation is in it exactly once, with its answer, at a step from its first to its last."
-  pub answered : (o : ℕ) → Operation j o → last j k o ≢ 0 → Answered j k o
+  pub answered : (o : ℕ) → IsOperation (j .count) o → last (note j) k o ≢ 0 → Answered j k o
   -- "An unanswered one is in it once exactly when it took effect, otherwise not at all, and never before its first step."
-  pub in-effect : (o : ℕ) → Operation j o → last j k o ≡ 0 → took-effect j k o ≡ true → InEffect j k o
-  pub without-effect : (o : ℕ) → Operation j o → last j k o ≡ 0 → took-effect j k o ≡ false → times o (the-record j k) ≡ 0
+  pub in-effect : (o : ℕ) → IsOperation (j .count) o → last (note j) k o ≡ 0 → took-effect (j .object) (note j) k o ≡ true → InEffect j k o
+  pub without-effect : (o : ℕ) → IsOperation (j .count) o → last (note j) k o ≡ 0 → took-effect (j .object) (note j) k o ≡ false → times o (the-record j k) ≡ 0
   -- nothing else is in it
-  pub operations : (r : Recorded) → List·Memᴰ r (the-record j k) → (o : ℕ) → List·Memᴰ o (members (r .line)) → Operation j o
+  pub operations : (r : Recorded) → List·Memᴰ r (the-record j k) → (o : ℕ) → List·Memᴰ o (members (r .line)) → IsOperation (j .count) o
   -- "So for any two operations in the record, one that ended before the other began stands in an earlier line"
-  pub ordered : (r s : Recorded) → List·Memᴰ r (the-record j k) → List·Memᴰ s (the-record j k) → (o q : ℕ) → List·Memᴰ o (members (r .line)) → List·Memᴰ q (members (s .line)) → Precedes j k o q → r .step < s .step
+  pub ordered : (r s : Recorded) → List·Memᴰ r (the-record j k) → List·Memᴰ s (the-record j k) → (o q : ℕ) → List·Memᴰ o (members (r .line)) → List·Memᴰ q (members (s .line)) → Precedes (note j) k o q → r .step < s .step
   -- "and any two takers of one item overlap"
-  pub overlapping : (s item : ℕ) (takers : List ℕ) → List·Memᴰ (record { step = s; line = takes item takers }) (the-record j k) → (o q : ℕ) → List·Memᴰ o takers → List·Memᴰ q takers → Overlap j k o q
+  pub overlapping : (s item : ℕ) (takers : List ℕ) → List·Memᴰ (record { step = s; line = takes item takers }) (the-record j k) → (o q : ℕ) → List·Memᴰ o takers → List·Memᴰ q takers → Overlap (note j) k o q
   -- "Items put in the record are those handed out, counted by line, plus those left."
   pub conserved : put-lines (lines-of (the-record j k)) ≡ take-lines (lines-of (the-record j k)) + length (left j k)

@@ -3,7 +3,7 @@
 use mathlib.Core.Path.{_≡_}
 use Prim.Native.Nat.{ℕ, _≤_, _<_}
 use Rattle.job.specs.Job.{Job}
-use Rattle.machine.specs.Journal.{note}
+use Rattle.machine.specs.Notes.{note}
 
 -- of the first k steps, each behind step `reach` is idle
 pub record IdleBehind (j : Job) (reach k : ℕ) : Type 0 where

@@ -1,8 +1,6 @@
 -- What is left after a run. Document 01, "The report, whole": "`left` is read from the shared memory after the last step, not from the
 -- record: for a queue the nodes linked behind Head, in link order; for a stack the unmarked nodes from Top down through the nexts."
-use mathlib.Core.Path.{_≡_, refl}
 use Prim.Native.Nat.{ℕ, zero, suc}
-use lib.Dec.{eqb·suc-zero}
 use mathlib.Core.List.{List, [], _∷_}
 use Rattle.basics.specs.Choice.{pick, same}
 use Rattle.job.specs.declared.Kind.{Kind}
@@ -18,15 +16,6 @@ walk next i zero = []
 walk next i (suc count) =
     let later : List ℕ = walk next (next i) count in
     pick (same i 0) [] (i ∷ later)
-
--- the equations of `walk`: none ends it, and a node comes before what follows it
-pub walk-ends : (next : ℕ → ℕ) (count : ℕ) → walk next 0 (suc count) ≡ []
-unfolding walk pick same
-walk-ends next count = refl
-
-pub walk-goes-on : (next : ℕ → ℕ) (i count : ℕ) → walk next (suc i) (suc count) ≡ suc i ∷ walk next (next (suc i)) count
-unfolding walk pick same
-walk-goes-on next i count = rw eqb·suc-zero
 
 unfoldable pub left-in : Kind → ℕ → Memory → List ℕ
 left-in Queue count m = walk (m .next) (m .next (m .head)) count

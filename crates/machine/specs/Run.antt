@@ -2,15 +2,14 @@
 -- before its first operation. Each step, also one that is idle or changes nothing, finds the shared memory and the places as the
 -- step before left them, and nothing else writes them."
 use Prim.Native.Nat.{ℕ, zero, suc, _-_}
-use mathlib.Core.Bool.{Bool, true, false}
+use mathlib.Core.Bool.{Bool}
 use Rattle.basics.specs.Choice.{pick, same, less}
 use Rattle.basics.specs.Maps.{upd}
 use Rattle.job.specs.Job.{Job}
 use Rattle.machine.specs.declared.Row.{Row}
-use Rattle.machine.specs.declared.Row.the-variants.{Q1, Q2, Q3, Q4, Q5, T1, T2, T3, T4, T5, P1, P2, P3, P4, R1, R2, R3, R4, R5, Done, ItemN, ItemT, Empty}
 use Rattle.machine.specs.declared.Place.{Place}
 use Rattle.machine.specs.Memory.{Memory, fresh-memory}
-use Rattle.machine.specs.Table.{row-of, successor, first-row}
+use Rattle.machine.specs.Table.{row-of, successor, ended, first-row}
 use Rattle.machine.specs.Access.{Registers, Reached, access}
 
 -- shared memory, and "The eight places, one a process": here, of any number of processes
@@ -37,32 +36,6 @@ before j o =
 -- "The run starts with fresh memory and every process before its first operation."
 unfoldable pub fresh-state : Job → State
 fresh-state j = record { memory = fresh-memory; places = λ p. before j (operation-after j p 0) }
-
--- has an operation ended?
-unfoldable pub ended : Row → Bool
-ended Q1 = false
-ended Q2 = false
-ended Q3 = false
-ended Q4 = false
-ended Q5 = false
-ended T1 = false
-ended T2 = false
-ended T3 = false
-ended T4 = false
-ended T5 = false
-ended P1 = false
-ended P2 = false
-ended P3 = false
-ended P4 = false
-ended R1 = false
-ended R2 = false
-ended R3 = false
-ended R4 = false
-ended R5 = false
-ended Done = true
-ended ItemN = true
-ended ItemT = true
-ended Empty = true
 
 -- what the row of an operation does, with the operation's number, memory and registers
 unfoldable pub reach : Row → ℕ → Memory → Registers → Reached

@@ -97,6 +97,46 @@ successor e Yes = e .yes
 successor e No = e .no
 successor e Bare = Empty
 
+-- what an end says of its operation: done, with item n, with item t, or with empty; a row of the listings says nothing
+pub data End : Type 0 where
+  no-end with-done with-n with-t with-empty : End
+
+unfoldable pub end-of : Row → End
+end-of Q1 = no-end
+end-of Q2 = no-end
+end-of Q3 = no-end
+end-of Q4 = no-end
+end-of Q5 = no-end
+end-of T1 = no-end
+end-of T2 = no-end
+end-of T3 = no-end
+end-of T4 = no-end
+end-of T5 = no-end
+end-of P1 = no-end
+end-of P2 = no-end
+end-of P3 = no-end
+end-of P4 = no-end
+end-of R1 = no-end
+end-of R2 = no-end
+end-of R3 = no-end
+end-of R4 = no-end
+end-of R5 = no-end
+end-of Done = with-done
+end-of ItemN = with-n
+end-of ItemT = with-t
+end-of Empty = with-empty
+
+unfoldable pub is-end : End → Bool
+is-end no-end = false
+is-end with-done = true
+is-end with-n = true
+is-end with-t = true
+is-end with-empty = true
+
+-- has an operation ended?
+unfoldable pub ended : Row → Bool
+ended r = is-end (end-of r)
+
 -- where an operation begins, by its object and by whether it is a put
 unfoldable pub first-row : Kind → Bool → Row
 first-row Queue true = Q1

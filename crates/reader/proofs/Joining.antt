@@ -10,9 +10,9 @@ use Rattle.basics.proofs.Laid.{Laid, laid-none, laid-piece, laid-whole}
 use Rattle.memory.specs.Over.{over}
 use Rattle.memory.proofs.Over.{drop-more}
 use Rattle.block.specs.Block.{block-size, payload-size, payload-of, block-refusal}
-use Rattle.block.specs.Answer.{number-of, bytes-of}
-use Rattle.block.specs.declared.Answer.{Answer}
-use Rattle.block.specs.declared.Answer.the-variants.{Payload}
+use Rattle.block.specs.Checked.{number-of, bytes-of}
+use Rattle.block.specs.declared.Checked.{Checked}
+use Rattle.block.specs.declared.Checked.the-variants.{Payload}
 use Rattle.block.proofs.Accepted.{length-payload}
 use Rattle.block.proofs.Given.{refused-bytes}
 use Rattle.job.specs.File.{block-at, payloads, blocks-refusal}
@@ -34,12 +34,12 @@ joining-none file m n =
     }
 
 -- what the block at `i` leaves under an answer
-abbrev pub Taken : List ℕ → List ℕ → ℕ → Answer → List ℕ → Type 0
+abbrev pub Taken : List ℕ → List ℕ → ℕ → Checked → List ℕ → Type 0
 Taken file m i r m′ =
     (number-of r ≡ block-refusal i (block-at file i))
     × (m′ ≡ take (payload-size * i) m ++ over (bytes-of r (block-at file i)) (drop (payload-size * i) m))
 
-module _ {file start m m′ : List ℕ} {n i : ℕ} (j : Joining file start m n i) (more : i < n) (r : Answer) (t : Taken file m i r m′) where
+module _ {file start m m′ : List ℕ} {n i : ℕ} (j : Joining file start m n i) (more : i < n) (r : Checked) (t : Taken file m i r m′) where
   pub joining-next : length file ≡ block-size * n → payload-size * n ≤ length m → r ≡ Payload → Joining file start m′ n (i + 1)
   unfolding payload-size block-size bytes-of
   joining-next whole room e =
@@ -52,7 +52,7 @@ module _ {file start m m′ : List ℕ} {n i : ℕ} (j : Joining file start m n 
             (subst (λ (x : List ℕ). Laid start m (payload-size * i) x (payloads file 0 n)) (payloads-next file more) (j .laid))
             (length-payload b (length-block-at file i (omega arith)))
             (omega arith)
-            (t .1 ∙ ap (λ (a : Answer). take (payload-size * i) m ++ over (bytes-of a b) (drop (payload-size * i) m)) e);
+            (t .1 ∙ ap (λ (a : Checked). take (payload-size * i) m ++ over (bytes-of a b) (drop (payload-size * i) m)) e);
         decided = refusal-next file more good ∙ j .decided;
       }
 

@@ -32,12 +32,12 @@ refused-loaded {file} {start} {work} {r} number none refused behind =
       behind = behind;
     }
 
-pub length-joined : (file : List ℕ) → Sized file (block-count file) → length (joined file) ≡ payload-size * block-count file
+length-joined : (file : List ℕ) → Sized file (block-count file) → length (joined file) ≡ payload-size * block-count file
 unfolding joined
 length-joined file z = length-payloads file (block-count file) (z .whole)
 
 -- the joined stream stands at the front
-pub joined-front : (file start work : List ℕ) → Sized file (block-count file) → work ≡ over (payloads file 0 (block-count file)) start
+joined-front : (file start work : List ℕ) → Sized file (block-count file) → work ≡ over (payloads file 0 (block-count file)) start
     → take (payload-size * block-count file) work ≡ joined file
 unfolding joined
 joined-front file start work z e =

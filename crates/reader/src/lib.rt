@@ -1,5 +1,5 @@
 // Reading a job file: its blocks into the lent work memory, and what the table says of them.
-use block::Answer;
+use block::Checked;
 use block::give;
 use job::Reply;
 use job::bad_padding;
@@ -15,21 +15,21 @@ ghost use lib.ListN.{length, take, drop};
 ghost use Rattle.basics.specs.Choice.{pick, same};
 ghost use Rattle.memory.specs.Over.{over};
 ghost use Rattle.block.specs.Block.{block-size, payload-size, block-refusal};
-ghost use Rattle.block.specs.Answer.{number-of, bytes-of};
+ghost use Rattle.block.specs.Checked.{number-of, bytes-of};
 ghost use Rattle.job.specs.Stream.{stream-length};
 ghost use Rattle.job.specs.File.{most-stream, block-at, payloads, blocks-refusal, bad-length};
 ghost use Rattle.job.specs.Calls.{read-number, read-length, read-work};
 ghost use Rattle.reader.specs.Loaded.{joined-refusal, Loaded};
 
 // The block at a position: its payload goes into the work memory behind the payloads before it, or nothing does.
-fn take_block(file: &[u8], i: usize, work: &mut [u8]) -> Answer
+fn take_block(file: &[u8], i: usize, work: &mut [u8]) -> Checked
     requires { ⌜ (i < 65536) × (block-size * i + block-size ≤ length (now file)) × (payload-size * i + payload-size ≤ length (now work)) ⌝ }
     ensures number { λ r. ⌜ number-of r ≡ block-refusal i (block-at (now (file .entry)) i) ⌝ }
     ensures payload { λ r. ⌜ now (work .exit) ≡ take (payload-size * i) (now (work .entry)) ++ over (bytes-of r (block-at (now (file .entry)) i)) (drop (payload-size * i) (now (work .entry))) ⌝ }
 {
-    let from = Answer::BLOCK * i;
-    let end = from + Answer::BLOCK;
-    let at = Answer::PAYLOAD * i;
+    let from = Checked::BLOCK * i;
+    let end = from + Checked::BLOCK;
+    let at = Checked::PAYLOAD * i;
     give(&file[from..end], i as u16, &mut work[at..])
 }
 
@@ -43,7 +43,7 @@ fn join(file: &[u8], count: usize, work: &mut [u8]) -> u8
     let mut i: usize = 0;
     while i < count {
         let answer = take_block(file, i, work);
-        let Answer::Payload = answer else {
+        let Checked::Payload = answer else {
             return answer.number();
         };
         i += 1;
@@ -61,7 +61,7 @@ fn bad_length(file: &[u8]) -> bool
     if Reply::MOST_FILE < file.len() {
         return true;
     }
-    file.len() % Answer::BLOCK != 0
+    file.len() % Checked::BLOCK != 0
 }
 
 // The numbers 5 to 12 of the joined stream of so many blocks, and 0 where it meets none.
@@ -108,12 +108,12 @@ fn load(file: &[u8], work: &mut [u8]) -> Reply
     if bad_length(file) {
         return Reply::refused(2);
     }
-    let count = file.len() / Answer::BLOCK;
+    let count = file.len() / Checked::BLOCK;
     let of_blocks = join(file, count, work);
     if of_blocks != 0 {
         return Reply::refused(of_blocks);
     }
-    let end = Answer::PAYLOAD * count;
+    let end = Checked::PAYLOAD * count;
     reply(&work[..end], count)
 }
 

@@ -14,11 +14,11 @@ use Rattle.job.specs.File.{most-blocks, most-stream}
 use Rattle.job.specs.Job.{job-of}
 use Rattle.machine.specs.Idle.{IdleBehind}
 use Rattle.machine.specs.Run.{state-after}
-use Rattle.machine.specs.Report.{report}
-use Rattle.machine.proofs.Sizes.{Fits, report-bounded}
+use Rattle.wording.specs.Report.{report}
+use Rattle.wording.proofs.Sizes.{Fits, report-bounded}
 use Rattle.run.specs.Promise.{Runnable, Room, AllBlank, Ran}
 use Rattle.run.proofs.Loop.{SameLengths}
-use Rattle.report.specs.Holds.{Holds, Remembers}
+use Rattle.report.specs.Columns.{HoldsRun, Remembers}
 use Rattle.replayer.specs.Replay.{least-report}
 use Rattle.replayer.specs.Ready.{Ready}
 use Rattle.replayer.proofs.Stream.{blank}
@@ -123,7 +123,7 @@ module _ {s : List ℕ} (r : Ready s) where
     unfolding job-of
     whole-run = subst (λ k. Ran (job-of s) k head tail top next mark first last start link taken stands by) its-steps ran
 
-    pub run-told : Holds (job-of s) (job-of s .steps) first last start link taken stands by
+    pub run-told : HoldsRun (job-of s) (job-of s .steps) first last start link taken stands by
     unfolding job-of
     run-told = told (r .few) (r .short) room whole-run
 

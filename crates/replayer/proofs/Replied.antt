@@ -13,11 +13,11 @@ use Rattle.basics.proofs.Choice.{both, pick-then, pick-else, equal-same, unequa
 use Rattle.job.specs.File.{most-stream, zeros, file-refusal, stream-of}
 use Rattle.job.specs.Job.{job-of}
 use Rattle.job.specs.Calls.{small-work, held, read-number, read-length, read-work}
-use Rattle.machine.specs.Report.{report}
+use Rattle.wording.specs.Report.{report}
 use Rattle.machine.specs.Explained.{Explained}
-use Rattle.machine.proofs.Theorem.{explained}
+use Rattle.theory.proofs.Theorem.{explained}
 use Rattle.text.specs.Laid.{laid}
-use Rattle.report.specs.Holds.{Reported}
+use Rattle.report.specs.Columns.{Reported}
 use Rattle.replayer.specs.Ready.{Ready}
 use Rattle.replayer.proofs.Stream.{filled, filled-long, filled-ready, filled-job}
 use Rattle.replayer.specs.Replay.{least-report, small-memory, job-in, report-of, replay-number, replay-length, replay-report, replay-work}

@@ -11,8 +11,8 @@ use Rattle.block.specs.Block.{block-size, payload-size, payload-of}
 use Rattle.job.specs.Refusals.{most-operations}
 use Rattle.job.specs.File.{block-at, block-count, payloads, joined, stream-of, file-refusal}
 use Rattle.job.specs.Job.{Job, job-of}
-use Rattle.machine.specs.Report.{report}
-use Rattle.machine.proofs.Sizes.{report-bounded}
+use Rattle.wording.specs.Report.{report}
+use Rattle.wording.proofs.Sizes.{report-bounded}
 use Rattle.replayer.specs.Replay.{least-report, job-in, report-of}
 use Rattle.replayer.proofs.Stream.{filled, at-filled, filled-job, filled-ready}
 use Rattle.replayer.proofs.Ready.{fits}

@@ -36,7 +36,7 @@ unfolding at
 blank m i = zero-anywhere m i
 
 -- zeros behind a list are read as what is not there
-pub at-zeros : (l : List ℕ) (n : ℕ) → at (l ++ zeros n) ≡ at l
+at-zeros : (l : List ℕ) (n : ℕ) → at (l ++ zeros n) ≡ at l
 unfolding at zeros
 at-zeros l n = fun-ext (λ i. go l i)
   where
@@ -46,7 +46,7 @@ at-zeros l n = fun-ext (λ i. go l i)
     go (x ∷ l) (suc i) = go l i
 
 -- a list cut where only zeros follow is read as the whole
-pub at-cut : (l : List ℕ) (n : ℕ) → ((i : ℕ) → n ≤ i → at l i ≡ 0) → at (take n l) ≡ at l
+at-cut : (l : List ℕ) (n : ℕ) → ((i : ℕ) → n ≤ i → at l i ≡ 0) → at (take n l) ≡ at l
 unfolding at
 at-cut l n rest = fun-ext (λ i. go i (compare n i))
   where
@@ -61,7 +61,7 @@ at-cut l n rest = fun-ext (λ i. go i (compare n i))
     go i (inr h) = getD-take n l i 0 h
 
 -- jobs of lists that are read alike are the same
-pub same-job : (s t : List ℕ) → at s ≡ at t → job-of s ≡ job-of t
+same-job : (s t : List ℕ) → at s ≡ at t → job-of s ≡ job-of t
 unfolding job-of kind operations process action value schedule-length scheduled record-at word
 same-job s t e =
     λ i.

@@ -11,10 +11,10 @@ use Rattle.access.specs.View.{memory-of}
 use Rattle.journal.specs.Cells.{cells}
 use Rattle.journal.specs.Holds as Journal
 use Rattle.run.specs.Promise.{Ran, Room}
-use Rattle.report.specs.Holds.{Holds, Remembers}
+use Rattle.report.specs.Columns.{HoldsRun, Remembers}
 
 module _ {j : Job} {k head tail top : ℕ} {next mark first last start link taken stands by : List ℕ} (few : j .count ≤ most-operations) (short : k ≤ most-steps) (room : Room next mark first last start link taken stands by) (ran : Ran j k head tail top next mark first last start link taken stands by) where
-  pub told : Holds j k first last start link taken stands by
+  pub told : HoldsRun j k first last start link taken stands by
   unfolding cells
   told =
       record {

@@ -7,7 +7,7 @@ use Rattle.basics.specs.Choice.{pick, same, less}
 use Rattle.job.specs.File.{file-refusal, stream-of}
 use Rattle.job.specs.Calls.{small-work, held}
 use Rattle.job.specs.Job.{Job, job-of}
-use Rattle.machine.specs.Report.{report}
+use Rattle.wording.specs.Report.{report}
 
 -- "report under 32,768 bytes"
 unfoldable pub least-report : ℕ

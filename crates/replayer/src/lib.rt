@@ -8,10 +8,10 @@ ghost use mathlib.Core.List.{_++_};
 ghost use lib.ListN.{length, take, drop};
 ghost use Rattle.job.specs.File.{most-stream, zeros};
 ghost use Rattle.job.specs.Job.{job-of};
-ghost use Rattle.machine.specs.Report as Report;
+ghost use Rattle.wording.specs.Report as Report;
 ghost use Rattle.machine.specs.Explained.{Explained};
 ghost use Rattle.run.specs.Promise.{Room, AllBlank};
-ghost use Rattle.report.specs.Holds.{Reported};
+ghost use Rattle.report.specs.Columns.{Reported};
 ghost use Rattle.replayer.specs.Ready.{Ready};
 ghost use Rattle.replayer.specs.Replay.{least-report, job-in, replay-number, replay-length, replay-report, replay-work};
 

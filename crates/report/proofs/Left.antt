@@ -17,8 +17,8 @@ use Rattle.machine.specs.Effects.{sift}
 use Rattle.machine.specs.Left.{walk, left-in, left}
 use Rattle.machine.proofs.Lists.{sift-agrees, sift-all}
 use Rattle.machine.proofs.Bounds.{MemoryWithin, within}
-use Rattle.lines.specs.Members.{stays, left-from, Nodes}
-use Rattle.report.specs.Holds.{Remembers, first-node}
+use Rattle.lines.specs.Members.{stays, left-from, NodesThere}
+use Rattle.report.specs.Columns.{Remembers, first-node}
 
 module _ (f g : ℕ → ℕ) (n : ℕ) (agree : (i : ℕ) → i ≤ n → f i ≡ g i) (within : (i : ℕ) → g i ≤ n) where
   -- walks by nexts that agree on all nodes are the same
@@ -68,7 +68,7 @@ module _ (object : Kind) {n : ℕ} {m : Memory} {next mark : List ℕ} {head top
   first = first-node object (m .next) (m .head) (m .top)
 
   -- the walk stays within the arrays
-  pub nodes-held : Nodes next mark n (first-node object (at next) head top)
+  nodes-held : NodesThere next mark n (first-node object (at next) head top)
   nodes-held =
       record {
         nexts = r .nexts .long;
@@ -77,7 +77,7 @@ module _ (object : Kind) {n : ℕ} {m : Memory} {next mark : List ℕ} {head top
         first = subst (λ (x : ℕ). x ≤ n) (sym (first-held object w r)) (first-within object w);
       }
 
-  pub left-held : left-from object (at next) (at mark) (first-node object (at next) head top) n ≡ left-in object n m
+  left-held : left-from object (at next) (at mark) (first-node object (at next) head top) n ≡ left-in object n m
   unfolding left-from first
   left-held =
       let nexts : (i : ℕ) → i ≤ n → at next i ≡ m .next i = λ i h. r .nexts .reads i (omega arith) h in
@@ -95,8 +95,8 @@ module _ (j : Job) (k : ℕ) {object : Kind} {count node head top : ℕ} {next m
   pub head-within : head < length next
   head-within = omega (arith, memory-within .head, r .heads, r .nexts .long)
 
-  pub nodes-of-job : Nodes next mark count node
-  nodes-of-job = subst (Nodes next mark count) (sym from) (nodes-held object memory-within r)
+  pub nodes-of-job : NodesThere next mark count node
+  nodes-of-job = subst (NodesThere next mark count) (sym from) (nodes-held object memory-within r)
 
   pub left-of-job : left-from object (at next) (at mark) node count ≡ left j k
   unfolding left

@@ -10,21 +10,22 @@ use Rattle.basics.proofs.Choice.{split}
 use Rattle.text.proofs.Each.{each-to}
 use Rattle.job.specs.Stream.{record-at, stream-length}
 use Rattle.job.specs.Job.{Job, job-of}
+use Rattle.machine.specs.Notes.{note}
 use Rattle.machine.specs.Journal
-use Rattle.machine.specs.Explained.{Operation}
-use Rattle.machine.specs.Report.{operation-line, operation-lines}
+use Rattle.machine.specs.Explained.{IsOperation}
+use Rattle.wording.specs.Report.{operation-line, operation-lines}
 use Rattle.lines.specs.Told.{said, Told}
-use Rattle.report.specs.Holds.{HoldsAnswers}
+use Rattle.report.specs.Columns.{HoldsAnswers}
 use Rattle.report.proofs.Facts.{item-operation, answer-said}
 
 pub record-within : (s : List ℕ) (o : ℕ) → stream-length s ≤ length s → o ≤ job-of s .count → record-at o + 3 < length s
 unfolding stream-length record-at job-of
 record-within s o whole h = omega arith
 
-pub item-within : (j : Job) (k o : ℕ) → Operation j o → Journal.taken j k o ≤ j .count
-item-within j k o op = ⊎-elim (λ z. omega arith) (λ some. item-operation j k o op some .to-count) (split (Journal.taken j k o) 0)
+item-within : (j : Job) (k o : ℕ) → IsOperation (j .count) o → Journal.taken (note j) k o ≤ j .count
+item-within j k o op = ⊎-elim (λ z. omega arith) (λ some. item-operation j k o op some .to-count) (split (Journal.taken (note j) k o) 0)
 
-module _ {j : Job} {k : ℕ} {first last link taken : List ℕ} (h : HoldsAnswers j k first last link taken) {o : ℕ} (op : Operation j o) where
+module _ {j : Job} {k : ℕ} {first last link taken : List ℕ} (h : HoldsAnswers j k first last link taken) {o : ℕ} (op : IsOperation (j .count) o) where
   pub told : Told j k o (at first o) (at last o) (at link o) (at taken o)
   told =
       let the-last = h .lasts .reads o (op .from-one) (op .to-count) in

@@ -9,10 +9,10 @@ use Rattle.job.specs.declared.Kind.{Kind}
 use Rattle.job.specs.Stream.{operations}
 use Rattle.job.specs.Job.{Job, job-of}
 use Rattle.machine.specs.Idle.{IdleBehind}
-use Rattle.machine.specs.Record.{Recorded, lines-to, the-record}
+use Rattle.machine.specs.Record.{Recorded, run-lines, the-record}
 use Rattle.machine.specs.Left.{left}
-use Rattle.machine.specs.Report.{object-line, operation-lines, record-lines, left-line, report}
-use Rattle.report.specs.Holds.{Holds, HoldsAnswers, HoldsEffects, Reported}
+use Rattle.wording.specs.Report.{object-line, operation-lines, record-lines, left-line, report}
+use Rattle.report.specs.Columns.{HoldsRun, HoldsAnswers, HoldsEffects, Reported}
 use Rattle.report.proofs.Facts.{all-lines-to-reach}
 
 -- the stream's own count is the job's
@@ -21,14 +21,14 @@ unfolding job-of
 count-of-job s e = e
 
 module _ (j : Job) {object : Kind} {count reach : ℕ} (of : object ≡ j .object) (all : count ≡ j .count) (behind : IdleBehind j reach (j .steps)) where
-  pub report-pieces : object-line object ++ operation-lines j (j .steps) count ++ record-lines (lines-to j (j .steps) reach) ++ left-line (left j (j .steps)) ≡ report j
+  pub report-pieces : object-line object ++ operation-lines j (j .steps) count ++ record-lines (run-lines j (j .steps) reach) ++ left-line (left j (j .steps)) ≡ report j
   unfolding report the-record
   report-pieces =
-      ap (λ (o : Kind). object-line o ++ operation-lines j (j .steps) count ++ record-lines (lines-to j (j .steps) reach) ++ left-line (left j (j .steps))) of
-      ∙ ap (λ (n : ℕ). object-line (j .object) ++ operation-lines j (j .steps) n ++ record-lines (lines-to j (j .steps) reach) ++ left-line (left j (j .steps))) all
+      ap (λ (o : Kind). object-line o ++ operation-lines j (j .steps) count ++ record-lines (run-lines j (j .steps) reach) ++ left-line (left j (j .steps))) of
+      ∙ ap (λ (n : ℕ). object-line (j .object) ++ operation-lines j (j .steps) n ++ record-lines (run-lines j (j .steps) reach) ++ left-line (left j (j .steps))) all
       ∙ ap (λ (l : List Recorded). object-line (j .object) ++ operation-lines j (j .steps) (j .count) ++ record-lines l ++ left-line (left j (j .steps))) (all-lines-to-reach j behind)
 
-module _ {j : Job} {k : ℕ} {first last start link taken stands by : List ℕ} (h : Holds j k first last start link taken stands by) where
+module _ {j : Job} {k : ℕ} {first last start link taken stands by : List ℕ} (h : HoldsRun j k first last start link taken stands by) where
   pub answers-held : HoldsAnswers j k first last link taken
   answers-held = record { firsts = h .firsts; lasts = h .lasts; links = h .links; items = h .items }
 

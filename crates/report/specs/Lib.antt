@@ -1,2 +1,2 @@
 -- What the arrays of a finished run hold.
-pub mod Holds
+pub mod Columns

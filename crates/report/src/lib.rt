@@ -20,13 +20,13 @@ ghost use Rattle.job.specs.Stream.{stream-length};
 ghost use Rattle.job.specs.Job.{job-of};
 ghost use Rattle.lines.specs.Members.{Bounds};
 ghost use Rattle.machine.specs.Run.{state-after};
-ghost use Rattle.machine.specs.Journal.{note};
+ghost use Rattle.machine.specs.Notes.{note};
 ghost use Rattle.machine.specs.Idle.{IdleBehind};
-ghost use Rattle.machine.specs.Record.{line-at, lines-to};
+ghost use Rattle.machine.specs.Record.{run-line, run-lines};
 ghost use Rattle.machine.specs.Left.{left};
 ghost use Rattle.machine.specs.Explained as Explained;
-ghost use Rattle.machine.specs.Report.{operation-line, operation-lines, record-lines, left-line, report};
-ghost use Rattle.report.specs.Holds.{MadeBy, Column, Holds, HoldsAnswers, HoldsEffects, Remembers, first-node, Reported};
+ghost use Rattle.wording.specs.Report.{operation-line, operation-lines, record-lines, left-line, report};
+ghost use Rattle.report.specs.Columns.{MadeBy, Column, HoldsRun, HoldsAnswers, HoldsEffects, Remembers, first-node, Reported};
 
 // The items whose takers are looked for between bounds: as many as a job has. Of any other, all operations are looked at.
 const ITEMS: usize = 257;
@@ -42,7 +42,7 @@ fn line_of(
     taken: &[u16],
     o: Operation,
 ) -> usize
-    requires { ⌜ (stream-length (now stream) ≤ length (now stream)) × Explained.Operation (job-of (now stream)) (o .0) ⌝ }
+    requires { ⌜ (stream-length (now stream) ≤ length (now stream)) × Explained.IsOperation (job-of (now stream) .count) (o .0) ⌝ }
     requires { ⌜ HoldsAnswers (job-of (now stream)) (job-of (now stream) .steps) (now first) (now last) (now link) (now taken) ⌝ }
     requires { ⌜ at + length (operation-line (job-of (now stream)) (job-of (now stream) .steps) (o .0)) ≤ length (now out) ⌝ }
     ensures { λ r. ⌜ Wrote (now (out .entry)) (now (out .exit)) at r (operation-line (job-of (now (stream .entry))) (job-of (now (stream .entry)) .steps) (o .0)) ⌝ }
@@ -102,8 +102,8 @@ fn step_line(
     o: Operation,
 ) -> usize
     requires { ⌜ MadeBy (job-of (now stream)) count (s .0) (o .0) × HoldsEffects (job-of (now stream)) (job-of (now stream) .steps) (now last) (now start) (now link) (now taken) (now stands) × Bounds (Maps.at (now taken)) count (Maps.at (now skip)) (Maps.at (now beyond)) ⌝ }
-    requires { ⌜ at + length (record-lines (line-at (job-of (now stream)) (job-of (now stream) .steps) (s .0))) ≤ length (now out) ⌝ }
-    ensures { λ r. ⌜ Wrote (now (out .entry)) (now (out .exit)) at r (record-lines (line-at (job-of (now (stream .entry))) (job-of (now (stream .entry)) .steps) (s .0))) ⌝ }
+    requires { ⌜ at + length (record-lines (run-line (job-of (now stream)) (job-of (now stream) .steps) (s .0))) ≤ length (now out) ⌝ }
+    ensures { λ r. ⌜ Wrote (now (out .entry)) (now (out .exit)) at r (record-lines (run-line (job-of (now (stream .entry))) (job-of (now (stream .entry)) .steps) (s .0))) ⌝ }
 {
     let i = o.0 as usize;
     let linked = link[i];
@@ -146,8 +146,8 @@ fn line_at(
 ) -> usize
     requires { ⌜ (count ≡ job-of (now stream) .count) × Column 1 (job-of (now stream) .steps) (now by) (λ s. note (job-of (now stream)) s .by) × (1 ≤ s .0) × (s .0 ≤ job-of (now stream) .steps) × Bounds (Maps.at (now taken)) count (Maps.at (now skip)) (Maps.at (now beyond)) ⌝ }
     requires { ⌜ HoldsEffects (job-of (now stream)) (job-of (now stream) .steps) (now last) (now start) (now link) (now taken) (now stands) ⌝ }
-    requires { ⌜ at + length (record-lines (line-at (job-of (now stream)) (job-of (now stream) .steps) (s .0))) ≤ length (now out) ⌝ }
-    ensures { λ r. ⌜ Wrote (now (out .entry)) (now (out .exit)) at r (record-lines (line-at (job-of (now (stream .entry))) (job-of (now (stream .entry)) .steps) (s .0))) ⌝ }
+    requires { ⌜ at + length (record-lines (run-line (job-of (now stream)) (job-of (now stream) .steps) (s .0))) ≤ length (now out) ⌝ }
+    ensures { λ r. ⌜ Wrote (now (out .entry)) (now (out .exit)) at r (record-lines (run-line (job-of (now (stream .entry))) (job-of (now (stream .entry)) .steps) (s .0))) ⌝ }
 {
     let o = by[s.0 as usize];
     if o == 0 {
@@ -188,8 +188,8 @@ fn bounded_lines(
 ) -> usize
     requires { ⌜ (count ≡ job-of (now stream) .count) × (reach .0 ≤ job-of (now stream) .steps) × Column 1 (job-of (now stream) .steps) (now by) (λ s. note (job-of (now stream)) s .by) × Bounds (Maps.at (now taken)) count (Maps.at (now skip)) (Maps.at (now beyond)) ⌝ }
     requires { ⌜ HoldsEffects (job-of (now stream)) (job-of (now stream) .steps) (now last) (now start) (now link) (now taken) (now stands) ⌝ }
-    requires { ⌜ at + length (record-lines (lines-to (job-of (now stream)) (job-of (now stream) .steps) (reach .0))) ≤ length (now out) ⌝ }
-    ensures { λ r. ⌜ Wrote (now (out .entry)) (now (out .exit)) at r (record-lines (lines-to (job-of (now (stream .entry))) (job-of (now (stream .entry)) .steps) (reach .0))) ⌝ }
+    requires { ⌜ at + length (record-lines (run-lines (job-of (now stream)) (job-of (now stream) .steps) (reach .0))) ≤ length (now out) ⌝ }
+    ensures { λ r. ⌜ Wrote (now (out .entry)) (now (out .exit)) at r (record-lines (run-lines (job-of (now (stream .entry))) (job-of (now (stream .entry)) .steps) (reach .0))) ⌝ }
 {
     let mut place = at;
     let mut s: u16 = 0;
@@ -230,8 +230,8 @@ fn record_lines(
 ) -> usize
     requires { ⌜ (count ≡ job-of (now stream) .count) × (reach .0 ≤ job-of (now stream) .steps) × Column 1 (job-of (now stream) .steps) (now by) (λ s. note (job-of (now stream)) s .by) ⌝ }
     requires { ⌜ HoldsEffects (job-of (now stream)) (job-of (now stream) .steps) (now last) (now start) (now link) (now taken) (now stands) ⌝ }
-    requires { ⌜ at + length (record-lines (lines-to (job-of (now stream)) (job-of (now stream) .steps) (reach .0))) ≤ length (now out) ⌝ }
-    ensures { λ r. ⌜ Wrote (now (out .entry)) (now (out .exit)) at r (record-lines (lines-to (job-of (now (stream .entry))) (job-of (now (stream .entry)) .steps) (reach .0))) ⌝ }
+    requires { ⌜ at + length (record-lines (run-lines (job-of (now stream)) (job-of (now stream) .steps) (reach .0))) ≤ length (now out) ⌝ }
+    ensures { λ r. ⌜ Wrote (now (out .entry)) (now (out .exit)) at r (record-lines (run-lines (job-of (now (stream .entry))) (job-of (now (stream .entry)) .steps) (reach .0))) ⌝ }
 {
     let mut skip = [0u16; ITEMS];
     let mut beyond = [0u16; ITEMS];
@@ -302,7 +302,7 @@ pub fn write_report(
     top: u16,
     reach: Step,
 ) -> usize
-    requires { ⌜ Holds (job-of (now stream)) (job-of (now stream) .steps) (now first) (now last) (now start) (now link) (now taken) (now stands) (now by) ⌝ }
+    requires { ⌜ HoldsRun (job-of (now stream)) (job-of (now stream) .steps) (now first) (now last) (now start) (now link) (now taken) (now stands) (now by) ⌝ }
     requires { ⌜ Remembers (job-of (now stream) .count) (state-after (job-of (now stream)) (job-of (now stream) .steps) .memory) (now next) (now mark) head top ⌝ }
     requires { ⌜ (stream-length (now stream) ≤ length (now stream)) × (length (report (job-of (now stream))) ≤ length (now out)) × IdleBehind (job-of (now stream)) (reach .0) (job-of (now stream) .steps) ⌝ }
     ensures { λ r. ⌜ Reported (now (out .entry)) (now (out .exit)) r (report (job-of (now (stream .entry)))) ⌝ }

@@ -9,7 +9,7 @@ use Rattle.job.specs.declared.Kind.{Kind}
 use Rattle.job.specs.Stream.{operations}
 use Rattle.job.specs.Job.{job-of}
 use Rattle.machine.specs.Run.{operation-after}
-use Rattle.machine.proofs.Operations.Hands.{seek-to}
+use Rattle.machine.proofs.Searches.{seek-to}
 use Rattle.run.specs.Promise.{Goes}
 
 -- the operation after one of the job's is one, or the next number

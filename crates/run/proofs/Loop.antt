@@ -15,11 +15,14 @@ use Rattle.job.specs.Job.{Job, job-of}
 use Rattle.job.specs.declared.Operation as Machine
 use Rattle.machine.specs.declared.Place.{Place}
 use Rattle.machine.specs.Memory.{Memory, fresh-memory}
-use Rattle.machine.specs.Run.{ended, resting, registers, state-after, fresh-state, reached}
-use Rattle.machine.specs.Journal.{item-of, acted}
+use Rattle.machine.specs.Table.{ended}
+use Rattle.machine.specs.Run.{resting, registers, state-after, fresh-state, reached}
+use Rattle.machine.specs.Notes.{acted, note}
+use Rattle.machine.specs.Journal.{item-of}
 use Rattle.machine.proofs.Bounds.{MemoryWithin, PlaceWithin, within, reached-within, item-within}
 use Rattle.machine.proofs.Stamps.{first-zero, last-zero, start-zero, link-zero, join-zero, taken-none}
-use Rattle.machine.proofs.TakesAt.{stands-zero}
+use Rattle.theory.proofs.Operations.{note-first}
+use Rattle.theory.proofs.TakesAt.{stands-zero}
 use Rattle.access.specs.View.{memory-of}
 use Rattle.step.specs.declared.Stepped.{Stepped}
 use Rattle.step.specs.Promise.{IsStep, event-at}
@@ -82,14 +85,14 @@ ran-at-start j h t p b =
       memory = λ i. record { head = h i; tail = t i; top = p i; next = λ x. b .no-next x i; mark = λ x. b .no-mark x i };
       journal =
           record {
-            first-at = λ o op. b .no-first o ∙ sym (first-zero j o);
-            last-at = λ o op. b .no-last o ∙ sym (last-zero j o);
+            first-at = λ o op. b .no-first o ∙ sym (first-zero (note j) o);
+            last-at = λ o op. b .no-last o ∙ sym (last-zero (note j) o);
             agrees =
                 record {
-                  start-at = λ o op. b .no-start o ∙ sym (start-zero j o);
-                  link-at = λ o op. b .no-link o ∙ sym (link-zero j o);
-                  taken-at = λ o op. b .no-taken o ∙ sym (taken-none j o 0 (join-zero j o));
-                  stands-at = λ o op. b .no-stands o ∙ sym (stands-zero j (j .object) o);
+                  start-at = λ o op. b .no-start o ∙ sym (start-zero (note j) o);
+                  link-at = λ o op. b .no-link o ∙ sym (link-zero (note j) o);
+                  taken-at = λ o op. b .no-taken o ∙ sym (taken-none (note j) o (note-first j) 0 (join-zero (note j) o));
+                  stands-at = λ o op. b .no-stands o ∙ sym (stands-zero (note j) (j .count) (j .object) o);
                 };
             by-at = λ s low high. absurd (let x : ⊥ = omega arith in x);
             by-later = λ s later. b .no-by s;

@@ -19,7 +19,7 @@ kept P end step k (suc n) e h = kept P end step (k + 1) n (omega arith) (step k 
 
 module _ {stream : List ℕ} {object : Kind} {count steps : ℕ} (r : Runnable stream object count steps) {k : ℕ} {places : List Place} {head tail top : ℕ} {next₀ mark₀ first₀ last₀ start₀ link₀ taken₀ stands₀ by₀ next mark first last start link taken stands by : List ℕ} (t : Turning stream steps k places head tail top next₀ mark₀ first₀ last₀ start₀ link₀ taken₀ stands₀ by₀ next mark first last start link taken stands by) (room : Room next₀ mark₀ first₀ last₀ start₀ link₀ taken₀ stands₀ by₀) (rest : EachRests count places) where
   -- the invariant holds after the last step, with the same places, cells and lists
-  pub settled : Turning stream steps steps places head tail top next₀ mark₀ first₀ last₀ start₀ link₀ taken₀ stands₀ by₀ next mark first last start link taken stands by
+  settled : Turning stream steps steps places head tail top next₀ mark₀ first₀ last₀ start₀ link₀ taken₀ stands₀ by₀ next mark first last start link taken stands by
   settled =
       let small : k ≤ steps = t .small in
       kept (λ x. Turning stream steps x places head tail top next₀ mark₀ first₀ last₀ start₀ link₀ taken₀ stands₀ by₀ next mark first last start link taken stands by) steps

@@ -17,11 +17,12 @@ use Rattle.job.specs.declared.Operation as Machine
 use Rattle.machine.specs.declared.Place.{Place}
 use Rattle.machine.specs.Memory.{Memory}
 use Rattle.machine.specs.Access.{Reached}
-use Rattle.machine.specs.Run.{State, before, operation-after, ended, reached, row-after, place-after, resting, step, state-after}
-use Rattle.machine.specs.Journal.{Note, idle, acted, note, is-answer}
-use Rattle.machine.proofs.Operations.{Idles, Acts, step-made}
-use Rattle.machine.proofs.Operations.Locals.{actor}
+use Rattle.machine.specs.Table.{ended}
+use Rattle.machine.specs.Run.{State, before, operation-after, reached, row-after, place-after, resting, step, state-after}
+use Rattle.machine.specs.Notes.{Note, idle, acted, note, is-answer}
 use Rattle.machine.proofs.Bounds.{within}
+use Rattle.theory.proofs.Course.{PassesIn, ActsIn, passes-by}
+use Rattle.theory.proofs.Operations.{course}
 use Rattle.access.specs.View.{memory-of}
 use Rattle.step.specs.declared.Stepped.{Stepped}
 use Rattle.step.specs.Promise.{IsStep, event-at}
@@ -83,30 +84,30 @@ module _ (j : Job) (k : ℕ) where
   unfolding note
   note-acts e = pick-else _ _ e
 
-  idles : resting j place ≡ true → Idles j k
-  unfolding actor idle
-  idles e = go (step-made j k)
+  idles : resting j place ≡ true → PassesIn (course j) k
+  unfolding idle
+  idles e = go (course j .step k)
     where
-      go : Idles j k ⊎ ((o : ℕ) × Acts j k o) → Idles j k
+      go : PassesIn (course j) k ⊎ ((o : ℕ) × ActsIn (course j) k o) → PassesIn (course j) k
       go (inl i) = i
       go (inr (o, acts)) =
-          let z : o ≡ 0 = sym (acts .actor-is) ∙ ap (λ (n : Note). n .by) (note-rests e) in
-          let h : 1 ≤ o = acts .from-one in
+          let z : o ≡ 0 = sym (acts .by) ∙ ap (λ (n : Note). n .by) (note-rests e) in
+          let h : 1 ≤ o = acts .operation .from-one in
           absurd (let b : ⊥ = omega arith in b)
 
-  acts-of : resting j place ≡ false → Acts j k (place .operation .0)
-  unfolding actor acted
-  acts-of e = go (step-made j k)
+  acts-of : resting j place ≡ false → ActsIn (course j) k (place .operation .0)
+  unfolding acted
+  acts-of e = go (course j .step k)
     where
-      own : actor j (suc k) ≡ place .operation .0
+      own : note j (suc k) .by ≡ place .operation .0
       own = ap (λ (n : Note). n .by) (note-acts e)
 
-      go : Idles j k ⊎ ((o : ℕ) × Acts j k o) → Acts j k (place .operation .0)
+      go : PassesIn (course j) k ⊎ ((o : ℕ) × ActsIn (course j) k o) → ActsIn (course j) k (place .operation .0)
       go (inl i) =
-          let z : place .operation .0 ≡ 0 = sym own ∙ i .nobody in
+          let z : place .operation .0 ≡ 0 = sym own ∙ passes-by i in
           let h : 1 ≤ place .operation .0 = within j k .place process .from-one in
           absurd (let b : ⊥ = omega arith in b)
-      go (inr (o, acts)) = subst (Acts j k) (sym (acts .actor-is) ∙ own) acts
+      go (inr (o, acts)) = subst (ActsIn (course j) k) (sym (acts .by) ∙ own) acts
 
   -- a resting process leaves everything
   pub ran-rests : {head tail top : ℕ} {next mark first last start link taken stands by : List ℕ} → resting j place ≡ true → Ran j k head tail top next mark first last start link taken stands by → Ran j (suc k) head tail top next mark first last start link taken stands by

@@ -12,10 +12,11 @@ use Rattle.job.specs.Refusals.{most-operations, most-processes, most-steps}
 use Rattle.job.specs.Job.{Job, job-of}
 use Rattle.machine.specs.declared.Place.{Place}
 use Rattle.machine.specs.declared.Row.the-variants.{Q1}
-use Rattle.machine.specs.Run.{ended, state-after}
+use Rattle.machine.specs.Table.{ended}
+use Rattle.machine.specs.Run.{state-after}
 use Rattle.access.specs.View.{memory-of}
 use Rattle.step.specs.Promise.{Inside, event-at}
-use Rattle.journal.specs.Cells as Cells
+use Rattle.journal.specs.Cells.{HasCells}
 use Rattle.journal.specs.Stored.{Spacious}
 use Rattle.journal.specs.Holds.{Holds}
 
@@ -88,5 +89,5 @@ pub record AllBlank (next mark first last start link taken stands by : List ℕ)
 pub record Makes (place : Place) (k head tail top : ℕ) (next mark first last start link taken stands by : List ℕ) : Type 0 where
   pub going : ended (place .row) ≡ false
   pub inside : Inside (place .operation .0) (place .h) (place .t) next mark
-  pub noting : Cells.Room (event-at place head tail top next mark) (place .operation .0) (length start) (length link) (length taken) (length stands)
+  pub noting : HasCells (event-at place head tail top next mark) (place .operation .0) (length start) (length link) (length taken) (length stands)
   pub entering : Spacious (place .operation .0) k first last by

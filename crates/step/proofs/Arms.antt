@@ -5,21 +5,21 @@ use mathlib.Core.List.{List}
 use Rattle.machine.specs.declared.Access.{Access}
 use Rattle.machine.specs.declared.Event.{Event}
 use Rattle.machine.specs.Access.{Reached}
-use Rattle.machine.specs.Journal.{event-of}
-use Rattle.access.specs.declared.Cells as Access
+use Rattle.machine.specs.Notes.{event-of}
+use Rattle.access.specs.declared.Scalars as Access
 use Rattle.access.specs.declared.Accessed.{Accessed}
 use Rattle.access.specs.View.{reached-from, reached-by, Does}
-use Rattle.journal.specs.Cells.{Cells, noted, Room}
+use Rattle.journal.specs.Cells.{Cells, noted, HasCells}
 use Rattle.step.specs.Promise.{heard}
 
 -- what holds of an event holds of the same event
-pub room-as : {e f : Event} {o start link taken stands : ℕ} → e ≡ f → Room f o start link taken stands → Room e o start link taken stands
-room-as {o = o} {start} {link} {taken} {stands} same = subst (λ x. Room x o start link taken stands) (sym same)
+pub room-as : {e f : Event} {o start link taken stands : ℕ} → e ≡ f → HasCells f o start link taken stands → HasCells e o start link taken stands
+room-as {o = o} {start} {link} {taken} {stands} same = subst (λ x. HasCells x o start link taken stands) (sym same)
 
 pub noted-as : {e f : Event} (o k : ℕ) (before : Cells) {after : Cells} → e ≡ f → after ≡ noted e o k before → after ≡ noted f o k before
 noted-as o k before same entered = entered ∙ ap (λ x. noted x o k before) same
 
-module _ {a b : Access} {own : ℕ} {c : Access.Cells} {next mark next' mark' : List ℕ} {d : Accessed} (arm : a ≡ b) (did : Does b own c next mark d next' mark') where
+module _ {a b : Access} {own : ℕ} {c : Access.Scalars} {next mark next' mark' : List ℕ} {d : Accessed} (arm : a ≡ b) (did : Does b own c next mark d next' mark') where
   -- what the code says of the access is what it is for the record
   event-is : d .event ≡ heard a own c next mark
   unfolding heard reached-by
@@ -29,7 +29,7 @@ module _ {a b : Access} {own : ℕ} {c : Access.Cells} {next mark next' mark' : 
       ∙ ap (λ x. event-of x (reached-from x own c next mark .outcome) (reached-from x own c next mark .registers)) (sym arm)
 
   -- so the cells that it needs are there
-  pub room : {start link taken stands : ℕ} → Room (heard a own c next mark) own start link taken stands → Room (d .event) own start link taken stands
+  pub room : {start link taken stands : ℕ} → HasCells (heard a own c next mark) own start link taken stands → HasCells (d .event) own start link taken stands
   room = room-as event-is
 
   -- and, noted, it is done and entered

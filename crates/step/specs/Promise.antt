@@ -7,8 +7,8 @@ use Rattle.machine.specs.declared.Access.{Access}
 use Rattle.machine.specs.declared.Event.{Event}
 use Rattle.machine.specs.declared.Place.{Place}
 use Rattle.machine.specs.Run.{reached, row-after}
-use Rattle.machine.specs.Journal.{event-of, acted}
-use Rattle.access.specs.declared.Cells.{Cells}
+use Rattle.machine.specs.Notes.{event-of, acted}
+use Rattle.access.specs.declared.Scalars.{Scalars}
 use Rattle.access.specs.View.{memory-of, reached-from}
 use Rattle.step.specs.declared.Stepped.{Stepped}
 
@@ -20,7 +20,7 @@ pub record Inside (own h t : ℕ) (next mark : List ℕ) : Type 0 where
   pub t-has-mark : t < length mark
 
 -- what access `a` of operation `own` is for the record
-unfoldable pub heard : Access → ℕ → Cells → List ℕ → List ℕ → Event
+unfoldable pub heard : Access → ℕ → Scalars → List ℕ → List ℕ → Event
 heard a own c next mark = event-of a (reached-from a own c next mark .outcome) (reached-from a own c next mark .registers)
 
 -- the step of place `p` on memory and lists as given, with the lists as it left them

@@ -1,7 +1,7 @@
 // One step of a place: the row's access, and the row after it. Document 01: "A step is one read, one write or one compare-and-set of
 // shared memory, with the private work after it."
 use access::Accessed;
-use access::Cells;
+use access::Scalars;
 use access::head_to_n;
 use access::link_own;
 use access::push;
@@ -27,11 +27,10 @@ use machine::Row;
 ghost use mathlib.Core.Path.{_≡_};
 ghost use mathlib.Core.Bool.{false};
 ghost use lib.ListN.{length};
-ghost use Rattle.machine.specs.Table.{successor};
-ghost use Rattle.machine.specs.Run.{ended};
+ghost use Rattle.machine.specs.Table.{successor, ended};
 ghost use Rattle.access.specs.View.{Does};
 ghost use Rattle.journal.specs.Cells as Journal;
-ghost use Rattle.journal.specs.Cells.{cells, Room};
+ghost use Rattle.journal.specs.Cells.{cells, HasCells};
 ghost use Rattle.step.specs.Promise.{Inside, heard, IsStep, event-at};
 
 // What a step left: the place's row and registers, and the three cells of shared memory.
@@ -46,7 +45,7 @@ pub struct Stepped {
 }
 
 // The same access, noted: what it was for the record, at step k of operation `own`.
-fn noted(
+fn written_down(
     d: Accessed,
     own: Operation,
     k: Step,
@@ -55,7 +54,7 @@ fn noted(
     taken: &mut [u16],
     stands: &mut [u16],
 ) -> Accessed
-    requires { ⌜ Room (d .event) (own .0) (length (now start)) (length (now link)) (length (now taken)) (length (now stands)) ⌝ }
+    requires { ⌜ HasCells (d .event) (own .0) (length (now start)) (length (now link)) (length (now taken)) (length (now stands)) ⌝ }
     ensures { λ r. ⌜ (r ≡ d) × (cells (now (start .exit)) (now (link .exit)) (now (taken .exit)) (now (stands .exit)) ≡ Journal.noted (d .event) (own .0) (k .0) (cells (now (start .entry)) (now (link .entry)) (now (taken .entry)) (now (stands .entry)))) ⌝ }
 {
     let event = d.event;
@@ -68,7 +67,7 @@ fn perform(
     a: Access,
     own: Operation,
     k: Step,
-    c: Cells,
+    c: Scalars,
     next: &mut [u16],
     mark: &mut [u16],
     start: &mut [u16],
@@ -76,25 +75,57 @@ fn perform(
     taken: &mut [u16],
     stands: &mut [u16],
 ) -> Accessed
-    requires { ⌜ Inside (own .0) (c .h) (c .t) (now next) (now mark) × Room (heard a (own .0) c (now next) (now mark)) (own .0) (length (now start)) (length (now link)) (length (now taken)) (length (now stands)) ⌝ }
+    requires { ⌜ Inside (own .0) (c .h) (c .t) (now next) (now mark) × HasCells (heard a (own .0) c (now next) (now mark)) (own .0) (length (now start)) (length (now link)) (length (now taken)) (length (now stands)) ⌝ }
     ensures { λ d. ⌜ Does a (own .0) c (now (next .entry)) (now (mark .entry)) d (now (next .exit)) (now (mark .exit)) ⌝ }
     ensures { λ d. ⌜ cells (now (start .exit)) (now (link .exit)) (now (taken .exit)) (now (stands .exit)) ≡ Journal.noted (heard a (own .0) c (now (next .entry)) (now (mark .entry))) (own .0) (k .0) (cells (now (start .entry)) (now (link .entry)) (now (taken .entry)) (now (stands .entry))) ⌝ }
 {
     match a {
-        Access::ReadHead => noted(read_head(c), own, k, start, link, taken, stands),
-        Access::ReadTail => noted(read_tail(c), own, k, start, link, taken, stands),
-        Access::ReadNextOfH => noted(read_next_of_h(c, next), own, k, start, link, taken, stands),
-        Access::ReadNextOfT => noted(read_next_of_t(c, next), own, k, start, link, taken, stands),
-        Access::Link => noted(link_own(own, c, next), own, k, start, link, taken, stands),
-        Access::TailToOwn => noted(tail_to_own(own, c), own, k, start, link, taken, stands),
-        Access::TailToN => noted(tail_to_n(c), own, k, start, link, taken, stands),
-        Access::HeadToN => noted(head_to_n(c), own, k, start, link, taken, stands),
-        Access::ReadTopToPut => noted(read_top_to_put(c), own, k, start, link, taken, stands),
-        Access::ReadTopToTake => noted(read_top_to_take(c), own, k, start, link, taken, stands),
-        Access::ReadMark => noted(read_mark(c, mark), own, k, start, link, taken, stands),
-        Access::Push => noted(push(own, c, next), own, k, start, link, taken, stands),
-        Access::RaiseMark => noted(raise_mark(c, mark), own, k, start, link, taken, stands),
-        Access::TopToNext => noted(top_to_next(c, next), own, k, start, link, taken, stands),
+        Access::ReadHead => written_down(read_head(c), own, k, start, link, taken, stands),
+        Access::ReadTail => written_down(read_tail(c), own, k, start, link, taken, stands),
+        Access::ReadNextOfH => written_down(
+            read_next_of_h(c, next),
+            own,
+            k,
+            start,
+            link,
+            taken,
+            stands,
+        ),
+        Access::ReadNextOfT => written_down(
+            read_next_of_t(c, next),
+            own,
+            k,
+            start,
+            link,
+            taken,
+            stands,
+        ),
+        Access::Link => written_down(link_own(own, c, next), own, k, start, link, taken, stands),
+        Access::TailToOwn => written_down(tail_to_own(own, c), own, k, start, link, taken, stands),
+        Access::TailToN => written_down(tail_to_n(c), own, k, start, link, taken, stands),
+        Access::HeadToN => written_down(head_to_n(c), own, k, start, link, taken, stands),
+        Access::ReadTopToPut => written_down(
+            read_top_to_put(c),
+            own,
+            k,
+            start,
+            link,
+            taken,
+            stands,
+        ),
+        Access::ReadTopToTake => written_down(
+            read_top_to_take(c),
+            own,
+            k,
+            start,
+            link,
+            taken,
+            stands,
+        ),
+        Access::ReadMark => written_down(read_mark(c, mark), own, k, start, link, taken, stands),
+        Access::Push => written_down(push(own, c, next), own, k, start, link, taken, stands),
+        Access::RaiseMark => written_down(raise_mark(c, mark), own, k, start, link, taken, stands),
+        Access::TopToNext => written_down(top_to_next(c, next), own, k, start, link, taken, stands),
     }
 }
 
@@ -127,7 +158,7 @@ pub fn step(
     stands: &mut [u16],
 ) -> Stepped
     requires { ⌜ (ended (p .row) ≡ false) × Inside (p .operation .0) (p .h) (p .t) (now next) (now mark) ⌝ }
-    requires { ⌜ Room (event-at p head tail top (now next) (now mark)) (p .operation .0) (length (now start)) (length (now link)) (length (now taken)) (length (now stands)) ⌝ }
+    requires { ⌜ HasCells (event-at p head tail top (now next) (now mark)) (p .operation .0) (length (now start)) (length (now link)) (length (now taken)) (length (now stands)) ⌝ }
     ensures { λ r. ⌜ IsStep p head tail top (now (next .entry)) (now (mark .entry)) r (now (next .exit)) (now (mark .exit)) ⌝ }
     ensures { λ r. ⌜ cells (now (start .exit)) (now (link .exit)) (now (taken .exit)) (now (stands .exit)) ≡ Journal.noted (event-at p head tail top (now (next .entry)) (now (mark .entry))) (p .operation .0) (k .0) (cells (now (start .entry)) (now (link .entry)) (now (taken .entry)) (now (stands .entry))) ⌝ }
 {
@@ -135,7 +166,7 @@ pub fn step(
     let here = p.row;
     let e = table::row_of(here);
     let a = e.access;
-    let c = Cells {
+    let c = Scalars {
         h: p.h,
         t: p.t,
         n: p.n,

@@ -6,8 +6,7 @@ use machine::Row;
 ghost use mathlib.Core.Path.{_≡_};
 ghost use mathlib.Core.Bool.{false};
 ghost use Prim.Native.Nat.{_<_};
-ghost use Rattle.machine.specs.Table.{row-of};
-ghost use Rattle.machine.specs.Run.{ended};
+ghost use Rattle.machine.specs.Table.{row-of, ended};
 ghost use Rattle.table.specs.Position.{entry-at};
 
 // how many rows there are

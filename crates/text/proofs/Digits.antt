@@ -16,7 +16,7 @@ use Rattle.text.proofs.Laid.{laid-nothing, length-laid, set-before-laid
 pub one-digit : (n : ℕ) → n < 10 → length (decimal n) ≡ 1
 one-digit n h = ap length (decimal-digit n h)
 
-pub more-digits : (n : ℕ) → 10 ≤ n → length (decimal n) ≡ length (decimal (n / 10)) + 1
+more-digits : (n : ℕ) → 10 ≤ n → length (decimal n) ≡ length (decimal (n / 10)) + 1
 unfolding last-digit
 more-digits n h = ap length (decimal-more n h) ∙ length-append (decimal (n / 10)) ((48 + n % 10) ∷ [])
 
@@ -31,7 +31,7 @@ digits-by-power (suc k) n low high =
     let front : suc k ≡ length (decimal (n / 10)) = digits-by-power k (n / 10) (omega (arith, pow-suc 10 k)) (omega (arith, pow-suc 10 (suc k))) in
     omega (arith, more-digits n (omega (arith, pow-suc 10 k, ten-power k)))
 
-pub some-digit : (n : ℕ) → 1 ≤ length (decimal n)
+some-digit : (n : ℕ) → 1 ≤ length (decimal n)
 some-digit n =
     ⊎-elim (λ e. omega (arith, one-digit n (less-lt e))) (λ e. omega (arith, more-digits n (less-le e))) (both (less n 10))
 

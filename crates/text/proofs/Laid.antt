@@ -27,11 +27,11 @@ module _ (out : List ℕ) (at : ℕ) (bytes : List ℕ) (room : at + length byte
       omega (arith, length-append (take at out ++ bytes) behind, length-front, length-drop (at + length bytes) out)
 
   -- what stands before the end of the bytes, and what stands behind it
-  pub take-laid : take (at + length bytes) (laid out at bytes) ≡ take at out ++ bytes
+  take-laid : take (at + length bytes) (laid out at bytes) ≡ take at out ++ bytes
   unfolding laid
   take-laid = take-at (take at out ++ bytes) (drop (at + length bytes) out) (at + length bytes) length-front
 
-  pub drop-laid : drop (at + length bytes) (laid out at bytes) ≡ drop (at + length bytes) out
+  drop-laid : drop (at + length bytes) (laid out at bytes) ≡ drop (at + length bytes) out
   unfolding laid
   drop-laid = drop-at (take at out ++ bytes) (drop (at + length bytes) out) (at + length bytes) length-front
 
@@ -54,7 +54,7 @@ laid-then out at a b room =
     ∙ ap (λ (l : List ℕ). l ++ drop (at + length (a ++ b)) out) (append-assoc (take at out) a b)
 
 -- a store lays one byte
-pub set-is-laid : (out : List ℕ) (i b : ℕ) → i < length out → set out i b ≡ laid out i (b ∷ [])
+set-is-laid : (out : List ℕ) (i b : ℕ) → i < length out → set out i b ≡ laid out i (b ∷ [])
 unfolding laid
 set-is-laid out i b h =
     set-split out i b h
@@ -76,7 +76,7 @@ set-before-laid out i b bytes room =
 pub wrote-nothing : (out : List ℕ) (at : ℕ) → Wrote out out at at []
 wrote-nothing out at = record { lays = sym (laid-nothing out at); behind = sym (add-zero at); as-long = refl }
 
-pub wrote-byte : (out : List ℕ) (i b : ℕ) → i < length out → Wrote out (set out i b) i (i + 1) (b ∷ [])
+wrote-byte : (out : List ℕ) (i b : ℕ) → i < length out → Wrote out (set out i b) i (i + 1) (b ∷ [])
 wrote-byte out i b h = record { lays = set-is-laid out i b h; behind = refl; as-long = length-set out i b }
 
 -- writing one thing and then another behind it

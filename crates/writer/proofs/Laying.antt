@@ -8,7 +8,7 @@ use lib.ListN.{length, take, drop}
 use Rattle.basics.proofs.Laid.{Laid, laid-none, laid-piece, laid-whole}
 use Rattle.memory.specs.Over.{over}
 use Rattle.block.specs.Block.{block-size, payload-size, block}
-use Rattle.block.specs.Answer.{filled}
+use Rattle.block.specs.Checked.{filled}
 use Rattle.block.proofs.Accepted.{length-block}
 use Rattle.job.specs.Stream.{stream-length}
 use Rattle.job.specs.Refusals.{exact-count}

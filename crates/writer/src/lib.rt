@@ -1,5 +1,5 @@
 // Writing a job file: what the table says of a stream, and then its blocks into the lent output.
-use block::Answer;
+use block::Checked;
 use block::make;
 use job::Reply;
 use job::exact_count;
@@ -12,7 +12,7 @@ ghost use Prim.Native.Nat.{ℕ, _+_, _*_, _≤_, _<_, min};
 ghost use lib.ListN.{length, take, drop};
 ghost use Rattle.memory.specs.Over.{over};
 ghost use Rattle.block.specs.Block.{block-size, payload-size, block};
-ghost use Rattle.block.specs.Answer.{filled};
+ghost use Rattle.block.specs.Checked.{filled};
 ghost use Rattle.job.specs.Stream.{stream-length};
 ghost use Rattle.job.specs.Refusals.{exact-count};
 ghost use Rattle.job.specs.File.{file-of};
@@ -49,9 +49,9 @@ fn put_block(s: &[u8], i: usize, out: &mut [u8])
     requires { ⌜ (i < 65536) × (payload-size * i ≤ length (now s)) × (block-size * i + block-size ≤ length (now out)) ⌝ }
     ensures { λ _. ⌜ now (out .exit) ≡ take (block-size * i) (now (out .entry)) ++ over (block i (filled (take payload-size (drop (payload-size * i) (now (s .entry)))))) (drop (block-size * i) (now (out .entry))) ⌝ }
 {
-    let from = Answer::PAYLOAD * i;
-    let end = smaller(from + Answer::PAYLOAD, s.len());
-    let at = Answer::BLOCK * i;
+    let from = Checked::PAYLOAD * i;
+    let end = smaller(from + Checked::PAYLOAD, s.len());
+    let at = Checked::BLOCK * i;
     make(&mut out[at..], i as u16, &s[from..end]);
 }
 
@@ -81,6 +81,6 @@ pub fn write(stream: &[u8], out: &mut [u8]) -> Reply
     put_blocks(stream, count, out);
     Reply {
         number,
-        length: Answer::BLOCK * count,
+        length: Checked::BLOCK * count,
     }
 }

@@ -6,7 +6,7 @@ use crate::job::Record;
 use std::fs;
 
 /// The file, from the repository's root.
-const TRACES: &str = "crates/machine/specs/Traces.antt";
+const TRACES: &str = "crates/wording/specs/Traces.antt";
 
 /// A job and the report that is proved to be its own.
 pub struct Proved {

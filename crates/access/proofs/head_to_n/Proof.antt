@@ -1,7 +1,7 @@
 -- `access::head_to_n` meets its contract: under what each test told, the definition computes to the answer. Assumes nothing.
 use mathlib.Core.Path.{refl}
 use Rattle.machine.specs.Access.{access, have-set}
-use Rattle.machine.specs.Journal.{event-of}
+use Rattle.machine.specs.Notes.{event-of}
 use Rattle.access.specs.View.{memory-of, reached-from, reached-by}
 use Rattle.basics.specs.Choice.{pick}
 use Rattle.basics.proofs.Choice.{equal-same, unequal-same}

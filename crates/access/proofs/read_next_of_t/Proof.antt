@@ -1,7 +1,7 @@
 -- `access::read_next_of_t` meets its contract: the definition computes to the answer. Assumes nothing.
 use mathlib.Core.Path.{refl}
 use Rattle.machine.specs.Access.{access, have-read}
-use Rattle.machine.specs.Journal.{event-of}
+use Rattle.machine.specs.Notes.{event-of}
 use Rattle.access.specs.View.{memory-of, reached-from, reached-by}
 use Rattle.basics.specs.Maps.{at}
 use borrow.Author.Needs.{needs}

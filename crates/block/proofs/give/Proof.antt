@@ -5,8 +5,8 @@ use mathlib.Core.List.{List}
 use Rattle.memory.specs.Over.{over}
 use Rattle.memory.proofs.Over.{length-part}
 use Rattle.block.specs.Block.{block-size, payload-size, payload-of}
-use Rattle.block.specs.Answer.{bytes-of}
-use Rattle.block.specs.declared.Answer.{Answer}
+use Rattle.block.specs.Checked.{bytes-of}
+use Rattle.block.specs.declared.Checked.{Checked}
 use Rattle.block.proofs.Given.{refused-number, refused-bytes}
 use Rattle.block.specs.Block.{block-size, payload-size, payload-of}
 use borrow.Author.Needs.{needs}
@@ -23,7 +23,7 @@ enum-told c = search needs
 returns : tie.Need-returns
 returns c =
     let p = c .before .before .before .before .args in
-    let r : Answer = c .before .check .result in
+    let r : Checked = c .before .check .result in
     (c .before .check .ensures, sym (ap (λ (x : List ℕ). over x (p .to .now)) (refused-bytes r (p .b .now) (refused-number r (c .match .keys2)))))
 
 sub-copy : tie.Need-sub-copy
@@ -47,7 +47,7 @@ returns-2 : tie.Need-returns-2
 unfolding bytes-of payload-of payload-size
 returns-2 c =
     let p = c .before .before .before .before .before .before .before .before .before .before .args in
-    (c .before .before .before .before .before .before .before .check .ensures, c .before .before .copy .ensures ∙ ap (λ (r : Answer). over (bytes-of r (p .b .now)) (p .to .now)) (sym (c .before .before .before .before .before .enum-told .given .1)))
+    (c .before .before .before .before .before .before .before .check .ensures, c .before .before .copy .ensures ∙ ap (λ (r : Checked). over (bytes-of r (p .b .now)) (p .to .now)) (sym (c .before .before .before .before .before .enum-told .given .1)))
 
 pub give-spec : {M : Type 1} → statement M
 give-spec =

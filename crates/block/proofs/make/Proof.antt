@@ -5,7 +5,7 @@ use lib.ListN.{length}
 use lib.Seq.{length-take-le}
 use Rattle.memory.proofs.Over.{length-part}
 use Rattle.block.specs.Block.{block-size, summed-size, payload-size}
-use Rattle.block.specs.Answer.{filled}
+use Rattle.block.specs.Checked.{filled}
 use Rattle.block.proofs.Sizes.{length-filled}
 use Rattle.block.proofs.Made.{block-over}
 use Prim.Native.Nat.{_-_}

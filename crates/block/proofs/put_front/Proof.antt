@@ -5,7 +5,7 @@ use lib.ListN.{length}
 use Rattle.basics.specs.Words.{word-bytes}
 use Rattle.memory.proofs.Over.{over-behind, length-part}
 use Rattle.block.specs.Block.{summed-size, payload-size}
-use Rattle.block.specs.Answer.{filled}
+use Rattle.block.specs.Checked.{filled}
 use Rattle.block.proofs.Sizes.{length-filled}
 use lib.ListN.{length}
 use Rattle.memory.proofs.Over.{over-behind}

@@ -5,7 +5,7 @@ use mathlib.Core.List.{List}
 use lib.ListN.{length, take, drop, replicate, length-replicate}
 use Rattle.memory.proofs.Over.{over-both, zeros-over, length-part}
 use Rattle.block.specs.Block.{payload-size}
-use Rattle.block.specs.Answer.{filled}
+use Rattle.block.specs.Checked.{filled}
 use lib.ListN.{length, take, drop, replicate, length-replicate}
 use Rattle.memory.proofs.Over.{over-both, zeros-over}
 use borrow.Author.Needs.{needs}

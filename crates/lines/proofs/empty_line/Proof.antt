@@ -1,7 +1,7 @@
 -- `lines::empty_line` meets its contract. Assumes nothing.
 use borrow.Author.Needs.{needs}
 use Rattle.basics.specs.Text.{text}
-use Rattle.machine.specs.Report.{effect-text, record-line}
+use Rattle.wording.specs.Report.{effect-text, record-line}
 use Rattle.lines.proofs.empty_line.Statement.{statement}
 use Rattle.lines.proofs.empty_line.Tie as tie
 

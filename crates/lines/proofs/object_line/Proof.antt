@@ -4,7 +4,7 @@ use native.Mathlib.Omega.{arith}
 use borrow.Author.Needs.{needs}
 use lib.ListN.{length}
 use Rattle.basics.specs.Text.{text}
-use Rattle.machine.specs.Report.{object-line}
+use Rattle.wording.specs.Report.{object-line}
 use Rattle.text.proofs.Laid.{wrote-as}
 use Rattle.lines.proofs.object_line.Statement.{statement}
 use Rattle.lines.proofs.object_line.Tie as tie

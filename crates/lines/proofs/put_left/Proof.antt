@@ -6,7 +6,7 @@ use native.Mathlib.Omega.{arith}
 use lib.ListN.{length-append}
 use Rattle.basics.specs.Maps as Maps
 use Rattle.basics.specs.Text.{text}
-use Rattle.machine.specs.Report.{spaced}
+use Rattle.wording.specs.Report.{spaced}
 use Rattle.text.proofs.Rest.{Rest, rest-all, rest-less}
 use Rattle.lines.specs.Members.{left-from}
 use Rattle.lines.proofs.Left.{left-start, left-end, left-none, left-first, left-past}

@@ -4,7 +4,7 @@ use native.Mathlib.Omega.{arith}
 use borrow.Author.Needs.{needs}
 use lib.ListN.{length-append}
 use Rattle.basics.specs.Text.{text}
-use Rattle.machine.specs.Report.{effect-text}
+use Rattle.wording.specs.Report.{effect-text}
 use Rattle.text.proofs.Laid.{wrote-three}
 use Rattle.lines.proofs.put_takes.Statement.{statement}
 use Rattle.lines.proofs.put_takes.Tie as tie

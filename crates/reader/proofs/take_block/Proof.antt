@@ -6,8 +6,8 @@ use lib.ListN.{length, take, drop}
 use Rattle.memory.specs.Over.{over}
 use Rattle.memory.proofs.Over.{part-over, length-part}
 use Rattle.block.specs.Block.{block-size, payload-size, block-refusal}
-use Rattle.block.specs.Answer.{bytes-of}
-use Rattle.block.specs.declared.Answer.{Answer}
+use Rattle.block.specs.Checked.{bytes-of}
+use Rattle.block.specs.declared.Checked.{Checked}
 use Rattle.block.proofs.Given.{length-given}
 use Rattle.job.specs.File.{block-at}
 use Rattle.job.proofs.Blocks.{block-part, length-block-at}
@@ -62,7 +62,7 @@ returns : tie.Need-returns
 unfolding block-size payload-size
 returns c =
     let p = c .before .before .before .before .before .before .before .args in
-    let r : Answer = c .before .before .give .result in
+    let r : Checked = c .before .before .give .result in
     let work : List ℕ = p .work .now in
     let b : List ℕ = block-at (p .file .now) (p .i) in
     let given : length (bytes-of r b) ≤ payload-size = length-given r b (length-block-at (p .file .now) (p .i) (omega arith)) in

@@ -4,7 +4,7 @@ use native.Mathlib.Omega.{arith}
 use borrow.Author.Needs.{needs}
 use lib.ListN.{length}
 use Rattle.job.specs.Job.{job-of}
-use Rattle.machine.specs.Report.{left-line}
+use Rattle.wording.specs.Report.{left-line}
 use Rattle.text.proofs.Laid.{wrote-as}
 use Rattle.report.proofs.Left.{head-within, nodes-of-job, left-of-job}
 use Rattle.report.proofs.left_of.Statement.{statement}

@@ -5,7 +5,7 @@ use Prim.Native.Nat.{_-_}
 use native.Mathlib.Omega.{arith}
 use lib.ListN.{length}
 use Rattle.job.specs.Job.{job-of}
-use Rattle.machine.specs.Report.{operation-line}
+use Rattle.wording.specs.Report.{operation-line}
 use Rattle.text.proofs.Laid.{wrote-as}
 use Rattle.text.proofs.Each.{Written, written-none, written-room, written-more, written-all}
 use Rattle.report.proofs.Operations.{lines-are-each}

@@ -8,7 +8,7 @@ use Rattle.job.specs.Stream.{stream-length}
 use Rattle.job.specs.Job.{job-of}
 use Rattle.machine.specs.Run.{state-after}
 use Rattle.text.proofs.Laid.{wrote-four}
-use Rattle.report.specs.Holds.{Remembers}
+use Rattle.report.specs.Columns.{Remembers}
 use Rattle.report.proofs.Whole.{count-of-job, report-pieces, answers-held, effects-held, reported}
 use Rattle.report.proofs.write_report.Statement.{statement}
 use Rattle.report.proofs.write_report.Tie as tie

@@ -5,88 +5,88 @@ use Rattle.step.proofs.perform.Statement.{statement}
 use Rattle.step.proofs.perform.Tie as tie
 
 returns : tie.Need-returns
-returns c = done-and-noted (c .before .before .before .before .before .before .before .before .before .before .before .before .before .before .enum-told .given .1) (c .before .before .before .before .before .before .before .before .before .before .before .before .before .read-head .ensures _ _ _) _ _ (c .before .before .before .before .before .before .before .before .noted .ensures)
+returns c = done-and-noted (c .before .before .before .before .before .before .before .before .before .before .before .before .before .before .enum-told .given .1) (c .before .before .before .before .before .before .before .before .before .before .before .before .before .read-head .ensures _ _ _) _ _ (c .before .before .before .before .before .before .before .before .written-down .ensures)
 
 returns-2 : tie.Need-returns-2
-returns-2 c = done-and-noted (c .before .before .before .before .before .before .before .before .before .before .before .before .before .before .enum-told2 .given .1) (c .before .before .before .before .before .before .before .before .before .before .before .before .before .read-tail .ensures _ _ _) _ _ (c .before .before .before .before .before .before .before .before .noted2 .ensures)
+returns-2 c = done-and-noted (c .before .before .before .before .before .before .before .before .before .before .before .before .before .before .enum-told2 .given .1) (c .before .before .before .before .before .before .before .before .before .before .before .before .before .read-tail .ensures _ _ _) _ _ (c .before .before .before .before .before .before .before .before .written-down2 .ensures)
 
 returns-3 : tie.Need-returns-3
-returns-3 c = done-and-noted (c .before .before .before .before .before .before .before .before .before .before .before .before .before .before .before .enum-told3 .given .1) (c .before .before .before .before .before .before .before .before .before .before .before .before .before .read-next-of-h .ensures _ _) _ _ (c .before .before .before .before .before .before .before .before .noted3 .ensures)
+returns-3 c = done-and-noted (c .before .before .before .before .before .before .before .before .before .before .before .before .before .before .before .enum-told3 .given .1) (c .before .before .before .before .before .before .before .before .before .before .before .before .before .read-next-of-h .ensures _ _) _ _ (c .before .before .before .before .before .before .before .before .written-down3 .ensures)
 
 returns-4 : tie.Need-returns-4
-returns-4 c = done-and-noted (c .before .before .before .before .before .before .before .before .before .before .before .before .before .before .before .enum-told4 .given .1) (c .before .before .before .before .before .before .before .before .before .before .before .before .before .read-next-of-t .ensures _ _) _ _ (c .before .before .before .before .before .before .before .before .noted4 .ensures)
+returns-4 c = done-and-noted (c .before .before .before .before .before .before .before .before .before .before .before .before .before .before .before .enum-told4 .given .1) (c .before .before .before .before .before .before .before .before .before .before .before .before .before .read-next-of-t .ensures _ _) _ _ (c .before .before .before .before .before .before .before .before .written-down4 .ensures)
 
 returns-5 : tie.Need-returns-5
-returns-5 c = done-and-noted (c .before .before .before .before .before .before .before .before .before .before .before .before .before .before .before .before .before .enum-told5 .given .1) (c .before .before .before .before .before .before .before .before .before .before .before .before .before .before .before .link-own .ensures _) _ _ (c .before .before .before .before .before .before .before .before .noted5 .ensures)
+returns-5 c = done-and-noted (c .before .before .before .before .before .before .before .before .before .before .before .before .before .before .before .before .before .enum-told5 .given .1) (c .before .before .before .before .before .before .before .before .before .before .before .before .before .before .before .link-own .ensures _) _ _ (c .before .before .before .before .before .before .before .before .written-down5 .ensures)
 
 returns-6 : tie.Need-returns-6
-returns-6 c = done-and-noted (c .before .before .before .before .before .before .before .before .before .before .before .before .before .before .enum-told6 .given .1) (c .before .before .before .before .before .before .before .before .before .before .before .before .before .tail-to-own .ensures _ _) _ _ (c .before .before .before .before .before .before .before .before .noted6 .ensures)
+returns-6 c = done-and-noted (c .before .before .before .before .before .before .before .before .before .before .before .before .before .before .enum-told6 .given .1) (c .before .before .before .before .before .before .before .before .before .before .before .before .before .tail-to-own .ensures _ _) _ _ (c .before .before .before .before .before .before .before .before .written-down6 .ensures)
 
 returns-7 : tie.Need-returns-7
-returns-7 c = done-and-noted (c .before .before .before .before .before .before .before .before .before .before .before .before .before .before .enum-told7 .given .1) (c .before .before .before .before .before .before .before .before .before .before .before .before .before .tail-to-n .ensures _ _ _) _ _ (c .before .before .before .before .before .before .before .before .noted7 .ensures)
+returns-7 c = done-and-noted (c .before .before .before .before .before .before .before .before .before .before .before .before .before .before .enum-told7 .given .1) (c .before .before .before .before .before .before .before .before .before .before .before .before .before .tail-to-n .ensures _ _ _) _ _ (c .before .before .before .before .before .before .before .before .written-down7 .ensures)
 
 returns-8 : tie.Need-returns-8
-returns-8 c = done-and-noted (c .before .before .before .before .before .before .before .before .before .before .before .before .before .before .enum-told8 .given .1) (c .before .before .before .before .before .before .before .before .before .before .before .before .before .head-to-n .ensures _ _ _) _ _ (c .before .before .before .before .before .before .before .before .noted8 .ensures)
+returns-8 c = done-and-noted (c .before .before .before .before .before .before .before .before .before .before .before .before .before .before .enum-told8 .given .1) (c .before .before .before .before .before .before .before .before .before .before .before .before .before .head-to-n .ensures _ _ _) _ _ (c .before .before .before .before .before .before .before .before .written-down8 .ensures)
 
 returns-9 : tie.Need-returns-9
-returns-9 c = done-and-noted (c .before .before .before .before .before .before .before .before .before .before .before .before .before .before .enum-told9 .given .1) (c .before .before .before .before .before .before .before .before .before .before .before .before .before .read-top-to-put .ensures _ _ _) _ _ (c .before .before .before .before .before .before .before .before .noted9 .ensures)
+returns-9 c = done-and-noted (c .before .before .before .before .before .before .before .before .before .before .before .before .before .before .enum-told9 .given .1) (c .before .before .before .before .before .before .before .before .before .before .before .before .before .read-top-to-put .ensures _ _ _) _ _ (c .before .before .before .before .before .before .before .before .written-down9 .ensures)
 
 returns-10 : tie.Need-returns-10
-returns-10 c = done-and-noted (c .before .before .before .before .before .before .before .before .before .before .before .before .before .before .enum-told10 .given .1) (c .before .before .before .before .before .before .before .before .before .before .before .before .before .read-top-to-take .ensures _ _ _) _ _ (c .before .before .before .before .before .before .before .before .noted10 .ensures)
+returns-10 c = done-and-noted (c .before .before .before .before .before .before .before .before .before .before .before .before .before .before .enum-told10 .given .1) (c .before .before .before .before .before .before .before .before .before .before .before .before .before .read-top-to-take .ensures _ _ _) _ _ (c .before .before .before .before .before .before .before .before .written-down10 .ensures)
 
 returns-11 : tie.Need-returns-11
-returns-11 c = done-and-noted (c .before .before .before .before .before .before .before .before .before .before .before .before .before .before .before .enum-told11 .given .1) (c .before .before .before .before .before .before .before .before .before .before .before .before .before .read-mark .ensures _ _) _ _ (c .before .before .before .before .before .before .before .before .noted11 .ensures)
+returns-11 c = done-and-noted (c .before .before .before .before .before .before .before .before .before .before .before .before .before .before .before .enum-told11 .given .1) (c .before .before .before .before .before .before .before .before .before .before .before .before .before .read-mark .ensures _ _) _ _ (c .before .before .before .before .before .before .before .before .written-down11 .ensures)
 
 returns-12 : tie.Need-returns-12
-returns-12 c = done-and-noted (c .before .before .before .before .before .before .before .before .before .before .before .before .before .before .before .before .before .enum-told12 .given .1) (c .before .before .before .before .before .before .before .before .before .before .before .before .before .before .before .push .ensures _) _ _ (c .before .before .before .before .before .before .before .before .noted12 .ensures)
+returns-12 c = done-and-noted (c .before .before .before .before .before .before .before .before .before .before .before .before .before .before .before .before .before .enum-told12 .given .1) (c .before .before .before .before .before .before .before .before .before .before .before .before .before .before .before .push .ensures _) _ _ (c .before .before .before .before .before .before .before .before .written-down12 .ensures)
 
 returns-13 : tie.Need-returns-13
-returns-13 c = done-and-noted (c .before .before .before .before .before .before .before .before .before .before .before .before .before .before .before .before .before .enum-told13 .given .1) (c .before .before .before .before .before .before .before .before .before .before .before .before .before .before .before .raise-mark .ensures _ _) _ _ (c .before .before .before .before .before .before .before .before .noted13 .ensures)
+returns-13 c = done-and-noted (c .before .before .before .before .before .before .before .before .before .before .before .before .before .before .before .before .before .enum-told13 .given .1) (c .before .before .before .before .before .before .before .before .before .before .before .before .before .before .before .raise-mark .ensures _ _) _ _ (c .before .before .before .before .before .before .before .before .written-down13 .ensures)
 
 returns-14 : tie.Need-returns-14
-returns-14 c = done-and-noted (c .before .before .before .before .before .before .before .before .before .before .before .before .before .before .before .enum-told14 .given .1) (c .before .before .before .before .before .before .before .before .before .before .before .before .before .top-to-next .ensures _ _) _ _ (c .before .before .before .before .before .before .before .before .noted14 .ensures)
+returns-14 c = done-and-noted (c .before .before .before .before .before .before .before .before .before .before .before .before .before .before .before .enum-told14 .given .1) (c .before .before .before .before .before .before .before .before .before .before .before .before .before .top-to-next .ensures _ _) _ _ (c .before .before .before .before .before .before .before .before .written-down14 .ensures)
 
-noted-requires : tie.Need-noted-requires
-noted-requires c κs = room (c .before .before .before .before .before .enum-told .given .1) (c .before .before .before .before .read-head .ensures _ _ _) (c .before .before .before .before .before .before .before .before .before .before .before .before .before .pre .1)
+written-down-requires : tie.Need-written-down-requires
+written-down-requires c κs = room (c .before .before .before .before .before .enum-told .given .1) (c .before .before .before .before .read-head .ensures _ _ _) (c .before .before .before .before .before .before .before .before .before .before .before .before .before .pre .1)
 
-noted-requires-2 : tie.Need-noted-requires-2
-noted-requires-2 c κs = room (c .before .before .before .before .before .enum-told2 .given .1) (c .before .before .before .before .read-tail .ensures _ _ _) (c .before .before .before .before .before .before .before .before .before .before .before .before .before .pre .1)
+written-down-requires-2 : tie.Need-written-down-requires-2
+written-down-requires-2 c κs = room (c .before .before .before .before .before .enum-told2 .given .1) (c .before .before .before .before .read-tail .ensures _ _ _) (c .before .before .before .before .before .before .before .before .before .before .before .before .before .pre .1)
 
-noted-requires-3 : tie.Need-noted-requires-3
-noted-requires-3 c κs = room (c .before .before .before .before .before .before .enum-told3 .given .1) (c .before .before .before .before .read-next-of-h .ensures _ _) (c .before .before .before .before .before .before .before .before .before .before .before .before .before .before .pre .1)
+written-down-requires-3 : tie.Need-written-down-requires-3
+written-down-requires-3 c κs = room (c .before .before .before .before .before .before .enum-told3 .given .1) (c .before .before .before .before .read-next-of-h .ensures _ _) (c .before .before .before .before .before .before .before .before .before .before .before .before .before .before .pre .1)
 
-noted-requires-4 : tie.Need-noted-requires-4
-noted-requires-4 c κs = room (c .before .before .before .before .before .before .enum-told4 .given .1) (c .before .before .before .before .read-next-of-t .ensures _ _) (c .before .before .before .before .before .before .before .before .before .before .before .before .before .before .pre .1)
+written-down-requires-4 : tie.Need-written-down-requires-4
+written-down-requires-4 c κs = room (c .before .before .before .before .before .before .enum-told4 .given .1) (c .before .before .before .before .read-next-of-t .ensures _ _) (c .before .before .before .before .before .before .before .before .before .before .before .before .before .before .pre .1)
 
-noted-requires-5 : tie.Need-noted-requires-5
-noted-requires-5 c κs = room (c .before .before .before .before .before .before .before .before .enum-told5 .given .1) (c .before .before .before .before .before .before .link-own .ensures _) (c .before .before .before .before .before .before .before .before .before .before .before .before .before .before .before .before .pre .1)
+written-down-requires-5 : tie.Need-written-down-requires-5
+written-down-requires-5 c κs = room (c .before .before .before .before .before .before .before .before .enum-told5 .given .1) (c .before .before .before .before .before .before .link-own .ensures _) (c .before .before .before .before .before .before .before .before .before .before .before .before .before .before .before .before .pre .1)
 
-noted-requires-6 : tie.Need-noted-requires-6
-noted-requires-6 c κs = room (c .before .before .before .before .before .enum-told6 .given .1) (c .before .before .before .before .tail-to-own .ensures _ _) (c .before .before .before .before .before .before .before .before .before .before .before .before .before .pre .1)
+written-down-requires-6 : tie.Need-written-down-requires-6
+written-down-requires-6 c κs = room (c .before .before .before .before .before .enum-told6 .given .1) (c .before .before .before .before .tail-to-own .ensures _ _) (c .before .before .before .before .before .before .before .before .before .before .before .before .before .pre .1)
 
-noted-requires-7 : tie.Need-noted-requires-7
-noted-requires-7 c κs = room (c .before .before .before .before .before .enum-told7 .given .1) (c .before .before .before .before .tail-to-n .ensures _ _ _) (c .before .before .before .before .before .before .before .before .before .before .before .before .before .pre .1)
+written-down-requires-7 : tie.Need-written-down-requires-7
+written-down-requires-7 c κs = room (c .before .before .before .before .before .enum-told7 .given .1) (c .before .before .before .before .tail-to-n .ensures _ _ _) (c .before .before .before .before .before .before .before .before .before .before .before .before .before .pre .1)
 
-noted-requires-8 : tie.Need-noted-requires-8
-noted-requires-8 c κs = room (c .before .before .before .before .before .enum-told8 .given .1) (c .before .before .before .before .head-to-n .ensures _ _ _) (c .before .before .before .before .before .before .before .before .before .before .before .before .before .pre .1)
+written-down-requires-8 : tie.Need-written-down-requires-8
+written-down-requires-8 c κs = room (c .before .before .before .before .before .enum-told8 .given .1) (c .before .before .before .before .head-to-n .ensures _ _ _) (c .before .before .before .before .before .before .before .before .before .before .before .before .before .pre .1)
 
-noted-requires-9 : tie.Need-noted-requires-9
-noted-requires-9 c κs = room (c .before .before .before .before .before .enum-told9 .given .1) (c .before .before .before .before .read-top-to-put .ensures _ _ _) (c .before .before .before .before .before .before .before .before .before .before .before .before .before .pre .1)
+written-down-requires-9 : tie.Need-written-down-requires-9
+written-down-requires-9 c κs = room (c .before .before .before .before .before .enum-told9 .given .1) (c .before .before .before .before .read-top-to-put .ensures _ _ _) (c .before .before .before .before .before .before .before .before .before .before .before .before .before .pre .1)
 
-noted-requires-10 : tie.Need-noted-requires-10
-noted-requires-10 c κs = room (c .before .before .before .before .before .enum-told10 .given .1) (c .before .before .before .before .read-top-to-take .ensures _ _ _) (c .before .before .before .before .before .before .before .before .before .before .before .before .before .pre .1)
+written-down-requires-10 : tie.Need-written-down-requires-10
+written-down-requires-10 c κs = room (c .before .before .before .before .before .enum-told10 .given .1) (c .before .before .before .before .read-top-to-take .ensures _ _ _) (c .before .before .before .before .before .before .before .before .before .before .before .before .before .pre .1)
 
-noted-requires-11 : tie.Need-noted-requires-11
-noted-requires-11 c κs = room (c .before .before .before .before .before .before .enum-told11 .given .1) (c .before .before .before .before .read-mark .ensures _ _) (c .before .before .before .before .before .before .before .before .before .before .before .before .before .before .pre .1)
+written-down-requires-11 : tie.Need-written-down-requires-11
+written-down-requires-11 c κs = room (c .before .before .before .before .before .before .enum-told11 .given .1) (c .before .before .before .before .read-mark .ensures _ _) (c .before .before .before .before .before .before .before .before .before .before .before .before .before .before .pre .1)
 
-noted-requires-12 : tie.Need-noted-requires-12
-noted-requires-12 c κs = room (c .before .before .before .before .before .before .before .before .enum-told12 .given .1) (c .before .before .before .before .before .before .push .ensures _) (c .before .before .before .before .before .before .before .before .before .before .before .before .before .before .before .before .pre .1)
+written-down-requires-12 : tie.Need-written-down-requires-12
+written-down-requires-12 c κs = room (c .before .before .before .before .before .before .before .before .enum-told12 .given .1) (c .before .before .before .before .before .before .push .ensures _) (c .before .before .before .before .before .before .before .before .before .before .before .before .before .before .before .before .pre .1)
 
-noted-requires-13 : tie.Need-noted-requires-13
-noted-requires-13 c κs = room (c .before .before .before .before .before .before .before .before .enum-told13 .given .1) (c .before .before .before .before .before .before .raise-mark .ensures _ _) (c .before .before .before .before .before .before .before .before .before .before .before .before .before .before .before .before .pre .1)
+written-down-requires-13 : tie.Need-written-down-requires-13
+written-down-requires-13 c κs = room (c .before .before .before .before .before .before .before .before .enum-told13 .given .1) (c .before .before .before .before .before .before .raise-mark .ensures _ _) (c .before .before .before .before .before .before .before .before .before .before .before .before .before .before .before .before .pre .1)
 
-noted-requires-14 : tie.Need-noted-requires-14
-noted-requires-14 c κs = room (c .before .before .before .before .before .before .enum-told14 .given .1) (c .before .before .before .before .top-to-next .ensures _ _) (c .before .before .before .before .before .before .before .before .before .before .before .before .before .before .pre .1)
+written-down-requires-14 : tie.Need-written-down-requires-14
+written-down-requires-14 c κs = room (c .before .before .before .before .before .before .enum-told14 .given .1) (c .before .before .before .before .top-to-next .ensures _ _) (c .before .before .before .before .before .before .before .before .before .before .before .before .before .before .pre .1)
 
 pub perform-spec : {M : Type 1} → statement M
 perform-spec =
@@ -94,46 +94,46 @@ perform-spec =
     (tie.spec
     (λ c. search needs)
     (λ c κs. search needs)
-    noted-requires
+    written-down-requires
     (λ c. search needs)
     (λ c κs. search needs)
-    noted-requires-2
+    written-down-requires-2
     (λ c. search needs)
     (λ c κs. search needs)
-    noted-requires-3
+    written-down-requires-3
     (λ c. search needs)
     (λ c κs. search needs)
-    noted-requires-4
+    written-down-requires-4
     (λ c. search needs)
     (λ c κs. search needs)
-    noted-requires-5
+    written-down-requires-5
     (λ c. search needs)
     (λ c κs. search needs)
-    noted-requires-6
+    written-down-requires-6
     (λ c. search needs)
     (λ c κs. search needs)
-    noted-requires-7
+    written-down-requires-7
     (λ c. search needs)
     (λ c κs. search needs)
-    noted-requires-8
+    written-down-requires-8
     (λ c. search needs)
     (λ c κs. search needs)
-    noted-requires-9
+    written-down-requires-9
     (λ c. search needs)
     (λ c κs. search needs)
-    noted-requires-10
+    written-down-requires-10
     (λ c. search needs)
     (λ c κs. search needs)
-    noted-requires-11
+    written-down-requires-11
     (λ c. search needs)
     (λ c κs. search needs)
-    noted-requires-12
+    written-down-requires-12
     (λ c. search needs)
     (λ c κs. search needs)
-    noted-requires-13
+    written-down-requires-13
     (λ c. search needs)
     (λ c κs. search needs)
-    noted-requires-14
+    written-down-requires-14
     (λ c. search needs)
     (λ c. search needs)
     (λ c. search needs)

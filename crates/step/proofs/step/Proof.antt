@@ -9,8 +9,8 @@ use Rattle.machine.specs.declared.Entry.{Entry}
 use Rattle.machine.specs.Access.{Reached}
 use Rattle.machine.specs.Table.{row-of, successor}
 use Rattle.machine.specs.Run.{reach, registers, reached, row-after}
-use Rattle.machine.specs.Journal.{acted}
-use Rattle.access.specs.declared.Cells.{Cells}
+use Rattle.machine.specs.Notes.{acted}
+use Rattle.access.specs.declared.Scalars.{Scalars}
 use Rattle.access.specs.declared.Accessed.{Accessed}
 use Rattle.access.specs.View.{memory-of, reached-from, reached-by, Does}
 use Rattle.step.specs.declared.Stepped.{Stepped}
@@ -21,7 +21,7 @@ use Rattle.step.proofs.step.Statement.{statement}
 use Rattle.step.proofs.step.Tie as tie
 
 -- the cells that the code makes of a place
-abbrev cells-of : Place → ℕ → ℕ → ℕ → Cells
+abbrev cells-of : Place → ℕ → ℕ → ℕ → Scalars
 cells-of p head tail top = record { h = p .h; t = p .t; n = p .n; head = head; tail = tail; top = top }
 
 -- what the code gives, from what the access left and the row after it

@@ -5,8 +5,7 @@ use Prim.Native.Nat.{ℕ}
 use borrow.Author.Needs.{needs}
 use Rattle.machine.specs.declared.Row.{Row}
 use Rattle.machine.specs.declared.Entry.{Entry}
-use Rattle.machine.specs.Table.{position, row-of}
-use Rattle.machine.specs.Run.{ended}
+use Rattle.machine.specs.Table.{position, row-of, end-of, is-end, ended}
 use Rattle.table.specs.Position.{entry-at}
 use Rattle.table.proofs.row_of.Statement.{statement}
 use Rattle.table.proofs.row_of.Tie as tie
@@ -21,7 +20,7 @@ never : {r s : Row} {A : Type 0} → r ≡ s → ended s ≡ true → ended r �
 never is end going = absurd (true≢false (sym end ∙ sym (ap ended is) ∙ going))
 
 pub row-of-spec : {M : Type 1} → statement M
-unfolding position ended
+unfolding position ended end-of is-end
 row-of-spec =
     tie.close
     (tie.spec

@@ -6,7 +6,7 @@ use lib.ListN.{length, take, drop, length-take}
 use Rattle.memory.specs.Over.{over}
 use Rattle.memory.proofs.Over.{part-over, length-part, take-within}
 use Rattle.block.specs.Block.{block-size, payload-size, block}
-use Rattle.block.specs.Answer.{filled}
+use Rattle.block.specs.Checked.{filled}
 use Rattle.block.proofs.Accepted.{length-block}
 use Rattle.job.proofs.Padded.{length-payload-filled}
 use Rattle.writer.proofs.Laying.{own-bytes}

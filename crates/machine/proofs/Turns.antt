@@ -1,0 +1,4 @@
+-- The step table as relations, an object a file.
+pub mod Locals
+pub mod Queue
+pub mod Stack

@@ -1,0 +1,123 @@
+-- What a queue operation took or answered after k steps, with what it knows by that: Head moved to the item of a taker after its last T1
+-- and not after its T5, and one that answers empty had nothing behind Head at its last T1. Assumes nothing.
+use mathlib.Core.Path.{_≡_, refl, sym, ap, subst, _∙_}
+use mathlib.Core.Logic.{_≢_, _⊎_, inl, inr}
+use Prim.Native.Nat.{ℕ, zero, suc, _≤_}
+use native.Mathlib.Omega.{arith}
+use Rattle.job.specs.declared.Kind.the-variants.{Queue}
+use Rattle.machine.specs.declared.Event.the-variants.{Moved}
+use Rattle.machine.specs.Notes.{Answer}
+use Rattle.machine.specs.Journal.{item-of, moved-to, made, first, start, join, taken, answer}
+use Rattle.machine.specs.Effects.{first-move}
+use Rattle.machine.specs.Explained.{IsOperation}
+use Rattle.machine.proofs.Turns.Locals.{Local}
+use Rattle.machine.proofs.Turns.Queue.{On}
+use Rattle.machine.proofs.Turns.Queue.On.{at-q1, at-q2, at-q3, at-q4, at-q5, at-t1, at-t2, at-t3, at-t4, at-t5, at-done, at-item, at-empty}
+use Rattle.machine.proofs.Stamps.{first-move-le}
+use Rattle.machine.proofs.Effected.{first-move-event}
+use Rattle.theory.proofs.Course.{Course, PassesIn, ActsIn, passes-event}
+use Rattle.theory.proofs.Deeds.{Deeds, deeds, Did}
+use Rattle.theory.proofs.Life.{operation-some, life, start-from-first}
+use Rattle.theory.proofs.Lines.{joiner-took}
+use Rattle.theory.proofs.Queue.Listing.{phase}
+use Rattle.theory.proofs.Queue.Memory.{Now}
+use Rattle.theory.proofs.Queue.Rows.{Served, Knows}
+use Rattle.theory.proofs.Queue.Rows.Knows.{in-q1, in-q2, in-q3, in-q4, in-q5, in-t1, in-t2, in-t3, in-t4, in-t5, in-done, in-item, in-empty}
+use Rattle.theory.proofs.Queue.Now.{moved, moved-is, now, front}
+use Rattle.theory.proofs.Queue.Always.{always}
+
+-- an operation took and answered nothing so far, or is done, or has an item, or found none
+data Result (front : ℕ → ℕ) (start join : ℕ) (v : Now) (d : Deeds) : Type 0 where
+  no-result : d .taken ≡ 0 → d .answer ≡ Answer.none → Result front start join v d
+  put : d .taken ≡ 0 → d .answer ≡ Answer.done → Result front start join v d
+  got : {n : ℕ} → Served n start join v → d .taken ≡ n → d .start ≢ 0 → d .answer ≡ Answer.item n → Result front start join v d
+  found-none : front start ≡ 0 → d .taken ≡ 0 → d .answer ≡ Answer.empty → Result front start join v d
+
+result-at : {front : ℕ → ℕ} {o start join : ℕ} {v : Now} {l : Local} (d : Deeds) (x : On l) → Did Queue (phase x) d → Knows front o start join v l → Result front start join v d
+result-at d at-q1 did in-q1 = no-result (did .not-taken) (did .no-answer)
+result-at d at-q2 did (in-q2 p) = no-result (did .not-taken) (did .no-answer)
+result-at d at-q3 did (in-q3 p) = no-result (did .not-taken) (did .no-answer)
+result-at d at-q4 did (in-q4 p) = no-result (did .0 .not-taken) (did .1 .no-answer)
+result-at d at-q5 did (in-q5 p) = no-result (did .not-taken) (did .no-answer)
+result-at d at-t1 did in-t1 = no-result (did .not-taken) (did .no-answer)
+result-at d at-t2 did (in-t2 p) = no-result (did .going .not-taken) (did .going .no-answer)
+result-at d at-t3 did (in-t3 p q) = no-result (did .going .not-taken) (did .going .no-answer)
+result-at d at-t4 did (in-t4 p) = no-result (did .going .not-taken) (did .going .no-answer)
+result-at d at-t5 did (in-t5 p q h) = no-result (did .going .not-taken) (did .going .no-answer)
+result-at d at-done did in-done = put (did .0 .not-taken) (did .1 .answered)
+result-at d at-item did (in-item p) = got p (did .0 .took) (did .0 .started) (did .1 .answered)
+result-at d at-empty did (in-empty p) = found-none p (did .0 .not-taken) (did .1 .answered)
+
+module _ (c : Course Queue) (k o : ℕ) (op : IsOperation (c .count) o) where
+  abbrev ResultOf : Type 0
+  ResultOf = Result (front c) (start (c .log) k o) (join (c .log) k o) (now c k) (deeds (c .log) k o)
+
+  result : ResultOf
+  result = result-at (deeds (c .log) k o) (life c k o op .on) (life c k o op .did) (always c k .knows o (operation-some op))
+
+  -- who answers empty had nothing behind Head at its last T1
+  pub empty-found-none : answer (c .log) k o ≡ Answer.empty → front c (start (c .log) k o) ≡ 0
+  unfolding deeds
+  empty-found-none e = go result
+    where
+      go : ResultOf → front c (start (c .log) k o) ≡ 0
+      go (no-result t a) = absurd (let z : _≡_ {A = ℕ} 0 1 = cc in omega arith)
+      go (put t a) = absurd (let z : _≡_ {A = ℕ} 0 1 = cc in omega arith)
+      go (got p t s a) = absurd (let z : _≡_ {A = ℕ} 0 1 = cc in omega arith)
+      go (found-none f t a) = f
+
+  pub item-is-node : (n : ℕ) → answer (c .log) k o ≡ Answer.item n → n ≢ 0
+  unfolding deeds
+  item-is-node n e = go result
+    where
+      go : ResultOf → n ≢ 0
+      go (no-result t a) = absurd (let z : _≡_ {A = ℕ} 0 1 = cc in omega arith)
+      go (put t a) = absurd (let z : _≡_ {A = ℕ} 0 1 = cc in omega arith)
+      go (got {n = m} p t s a) = let same-item : n ≡ m = cc in λ z. p .some-item (sym same-item ∙ z)
+      go (found-none f t a) = absurd (let z : _≡_ {A = ℕ} 0 1 = cc in omega arith)
+
+  -- a taker
+  module _ (took : taken (c .log) k o ≢ 0) where
+    taken-result : Served (taken (c .log) k o) (start (c .log) k o) (join (c .log) k o) (now c k) × (start (c .log) k o ≢ 0)
+    unfolding deeds
+    taken-result = go result
+      where
+        go : ResultOf → Served (taken (c .log) k o) (start (c .log) k o) (join (c .log) k o) (now c k) × (start (c .log) k o ≢ 0)
+        go (no-result t a) = absurd (took t)
+        go (put t a) = absurd (took t)
+        go (got p t s a) = (subst (λ n. Served n (start (c .log) k o) (join (c .log) k o) (now c k)) (sym t) p, s)
+        go (found-none f t a) = absurd (took t)
+
+    moved-first : moved (c .log) k (taken (c .log) k o) ≡ first-move (c .log) k (taken (c .log) k o)
+    moved-first = moved-is (c .log) k took
+
+    pub moved-from-first : first (c .log) k o ≤ first-move (c .log) k (taken (c .log) k o)
+    unfolding made
+    moved-from-first =
+        let began : start (c .log) k o ≢ 0 = taken-result .1 in
+        let from : first (c .log) k o ≤ start (c .log) k o = start-from-first c k o began in
+        omega (arith, moved-first, taken-result .0 .after-start)
+
+    pub moved-to-join : first-move (c .log) k (taken (c .log) k o) ≤ join (c .log) k o
+    moved-to-join = omega (arith, moved-first, taken-result .0 .to-join)
+
+    pub item-moved : first-move (c .log) k (taken (c .log) k o) ≢ 0
+    item-moved z = taken-result .0 .has-moved (moved-first ∙ z)
+
+-- the operation whose T5 moved Head to n took n
+pub mover-took : (c : Course Queue) (k s : ℕ) {o n : ℕ} → ActsIn c s o → c .log (suc s) .event ≡ Moved n → n ≢ 0 → suc s ≤ k → taken (c .log) k o ≡ n
+unfolding item-of
+mover-took c k s a e some early = joiner-took c k (suc s) (a .operation) (a .by) (ap item-of e) some (omega arith) early .1
+
+-- so the first T5 that moved Head to n was made by a taker of n
+pub moved-by-taker : (c : Course Queue) (k n : ℕ) → n ≢ 0 → first-move (c .log) k n ≢ 0 → taken (c .log) k (c .log (first-move (c .log) k n) .by) ≡ n
+unfolding moved-to
+moved-by-taker c k n some found = at-step (first-move (c .log) k n) found (first-move-le (c .log) n k) (first-move-event (c .log) k n some found)
+  where
+    by-maker : (s : ℕ) → suc s ≤ k → c .log (suc s) .event ≡ Moved n → PassesIn c s ⊎ ((o : ℕ) × ActsIn c s o) → taken (c .log) k (c .log (suc s) .by) ≡ n
+    by-maker s early e (inl a) = absurd (some (sym (ap moved-to e) ∙ ap moved-to (passes-event a)))
+    by-maker s early e (inr a) = ap (taken (c .log) k) (a .1 .by) ∙ mover-took c k s (a .1) e some early
+
+    at-step : (s : ℕ) → s ≢ 0 → s ≤ k → c .log s .event ≡ Moved n → taken (c .log) k (c .log s .by) ≡ n
+    at-step zero f early e = absurd (f refl)
+    at-step (suc s) f early e = by-maker s early e (c .step s)

@@ -1,0 +1,2 @@
+-- How long a report is.
+pub mod Sizes

@@ -1,0 +1,3 @@
+-- The report as text, and the table of traces.
+pub mod Report
+pub mod Traces

@@ -1,0 +1,149 @@
+-- Traces, as one table of jobs and whole reports: those that document 01 marks M ("M is proved"), as document 02 has them, and behind them
+-- five of our own, so that every outcome of every row happens in some trace. The reports are worked out from the papers by hand.
+-- `traces-proved` says that the definitions accept every job and give its report, by computation.
+use mathlib.Core.Path.{_≡_, refl}
+use Prim.Native.Nat.{ℕ, _-_}
+use Prim.Native.String.{String}
+use mathlib.Core.List.{List, [], _∷_, map}
+use Rattle.basics.specs.Choice.{pick, same, less}
+use Rattle.basics.specs.Maps.{at, upd}
+use Rattle.basics.specs.Words.{word, word-bytes}
+use Rattle.basics.specs.Text.{text, digits, decimal}
+use Rattle.block.specs.Block.{block-size, payload-size, summed-size, add-byte, add-bytes, sums, block, payload-of, sum-differs, misplaced, block-refusal}
+use Rattle.stage.specs.Millimetres.{millimetres}
+use Rattle.stage.specs.Centimetres.{half-way, even-one, nearest, centimetres}
+use Rattle.stage.specs.Printed.{signed-decimal, stage-text}
+use Rattle.job.specs.Kind.{kind-number, kinds, look-up, kind-of, is-missing, kind-found}
+use Rattle.job.specs.Stream.{kind, processes, operations, schedule-length, record-at, process, action, value, scheduled, stream-length}
+use Rattle.job.specs.Refusals.{most-processes, most-operations, most-steps, first-met, any, outside, bad-kind, bad-processes, bad-operations, bad-schedule-length, exact-count, bad-record, bad-records, bad-entry, bad-schedule, bad-padding, header-conditions, list-conditions}
+use Rattle.job.specs.File.{most-blocks, most-file, zeros, block-at, block-count, payloads, joined, blocks, padded, file-of, bad-length, blocks-refusal, bad-count, stream-refusal, file-refusal}
+use Rattle.job.specs.Job.{job-of}
+use Rattle.job.specs.Examples.{put, take, joined-records, header, stream}
+use Rattle.machine.specs.Memory.{fresh-memory, set-from-to, yes-if, with-head, with-tail, with-top, with-next, with-mark}
+use Rattle.machine.specs.Table.{row, table, position, row-of, successor, end-of, is-end, ended, first-row}
+use Rattle.machine.specs.Access.{have-read, have-set, access}
+use Rattle.machine.specs.Run.{seek, operation-after, before, fresh-state, reach, registers, reached, row-after, place-after, resting, step, state-after}
+use Rattle.machine.specs.Notes.{answer-at, answer-of, is-answer, event-of, idle, acted, note}
+use Rattle.machine.specs.Journal.{is-round, is-linked, item-of, moved-to, earliest, latest, made, begins-round, links, joins, ends, first, last, answer, start, link, join, taken}
+use Rattle.machine.specs.Effects.{numbers, sift, largest, takers, first-move, latest-start, takes-at, is-empty, effect}
+use Rattle.machine.specs.Record.{if-at, line-at, lines-to, the-record}
+use Rattle.machine.specs.Left.{walk, left-in, left}
+use Rattle.wording.specs.Report.{object-line, action-text, answer-text, progress-text, operation-line, operation-lines, spaced, effect-text, record-line, record-lines, left-line, report}
+
+-- a job, as its stream, and its whole report
+pub record Trace : Type 0 where
+  pub job : List ℕ
+  pub expected : String
+
+-- the value field of a stage so many mm below the datum, in two's complement
+unfoldable pub below : ℕ → ℕ
+below mm = 65536 - mm
+
+unfoldable pub traces : List Trace
+traces =
+    -- "M the report above."
+    record {
+      job = stream 1 3 (put 0 500 ∷ take 1 ∷ take 2 ∷ []) (0 ∷ 0 ∷ 0 ∷ 0 ∷ 1 ∷ 2 ∷ 1 ∷ 2 ∷ 1 ∷ 2 ∷ 1 ∷ 2 ∷ []);
+      expected = "object queue\nop 1 process 0 put 50 first 1 last 4 done\nop 2 process 1 take first 5 last 11 item 1 value 50\nop 3 process 2 take first 6 last 12 item 1 value 50\nat 3 put 1\nat 11 take 1 by 2 3\nleft 0\n";
+    }
+    -- "M queue, one take, schedule 0 0 0: empty, first 1, last 3, `at 1 empty by 1`."
+    ∷ record {
+      job = stream 1 1 (take 0 ∷ []) (0 ∷ 0 ∷ 0 ∷ []);
+      expected = "object queue\nop 1 process 0 take first 1 last 3 empty\nat 1 empty by 1\nleft 0\n";
+    }
+    -- "M queue, one put, 0 0 0: open, `at 3 put 1`, `left 1 1`."
+    ∷ record {
+      job = stream 1 1 (put 0 500 ∷ []) (0 ∷ 0 ∷ 0 ∷ []);
+      expected = "object queue\nop 1 process 0 put 50 first 1 last - open\nat 3 put 1\nleft 1 1\n";
+    }
+    -- "M S = 0: all waiting, no record, `left 0`.", for each object
+    ∷ record {
+      job = stream 1 2 (put 0 500 ∷ take 1 ∷ []) [];
+      expected = "object queue\nop 1 process 0 put 50 first - last - waiting\nop 2 process 1 take first - last - waiting\nleft 0\n";
+    }
+    ∷ record {
+      job = stream 2 2 (put 0 500 ∷ take 1 ∷ []) [];
+      expected = "object stack\nop 1 process 0 put 50 first - last - waiting\nop 2 process 1 take first - last - waiting\nleft 0\n";
+    }
+    -- "M stack; 1 process 0 put; 2 process 1 take; 3 process 0 put; 0 0 1 1 0 0 0 1 1: take 2 gets item 1; `at 2 put 1`, `at 3 take 1 by 2`,
+    -- `at 7 put 3`, `left 1 3`."
+    ∷ record {
+      job = stream 2 2 (put 0 500 ∷ take 1 ∷ put 0 700 ∷ []) (0 ∷ 0 ∷ 1 ∷ 1 ∷ 0 ∷ 0 ∷ 0 ∷ 1 ∷ 1 ∷ []);
+      expected = "object stack\nop 1 process 0 put 50 first 1 last 2 done\nop 2 process 1 take first 3 last 9 item 1 value 50\nop 3 process 0 put 70 first 5 last 7 done\nat 2 put 1\nat 3 take 1 by 2\nat 7 put 3\nleft 1 3\n";
+    }
+    -- "M stack; put, takes 2 and 3 on processes 1, 2; 0 0 1 1 2 2 1 1 2 2: `at 5 take 1 by 2 3`."
+    ∷ record {
+      job = stream 2 3 (put 0 500 ∷ take 1 ∷ take 2 ∷ []) (0 ∷ 0 ∷ 1 ∷ 1 ∷ 2 ∷ 2 ∷ 1 ∷ 1 ∷ 2 ∷ 2 ∷ []);
+      expected = "object stack\nop 1 process 0 put 50 first 1 last 2 done\nop 2 process 1 take first 3 last 8 item 1 value 50\nop 3 process 2 take first 5 last 10 item 1 value 50\nat 2 put 1\nat 5 take 1 by 2 3\nleft 0\n";
+    }
+    -- "M same, 0 0 1 1 2 1 2 2 2 1: `at 3 take 1 by 2`, `at 9 empty by 3`."
+    ∷ record {
+      job = stream 2 3 (put 0 500 ∷ take 1 ∷ take 2 ∷ []) (0 ∷ 0 ∷ 1 ∷ 1 ∷ 2 ∷ 1 ∷ 2 ∷ 2 ∷ 2 ∷ 1 ∷ []);
+      expected = "object stack\nop 1 process 0 put 50 first 1 last 2 done\nop 2 process 1 take first 3 last 10 item 1 value 50\nop 3 process 2 take first 5 last 9 empty\nat 2 put 1\nat 3 take 1 by 2\nat 9 empty by 3\nleft 0\n";
+    }
+    -- "M 504 prints 50, 505 prints 51, 65,535 prints 6554.", where document 02, request 1, has: "505 mm prints 50, 515 prints 52"; and request 2:
+    -- "The 65,535 trace of document 01 goes"
+    ∷ record {
+      job = stream 1 1 (put 0 504 ∷ put 0 505 ∷ put 0 515 ∷ []) (0 ∷ 0 ∷ 0 ∷ 0 ∷ 0 ∷ 0 ∷ 0 ∷ 0 ∷ 0 ∷ 0 ∷ 0 ∷ 0 ∷ []);
+      expected = "object queue\nop 1 process 0 put 50 first 1 last 4 done\nop 2 process 0 put 50 first 5 last 8 done\nop 3 process 0 put 52 first 9 last 12 done\nat 3 put 1\nat 7 put 2\nat 11 put 3\nleft 3 1 2 3\n";
+    }
+    -- Document 02, request 2: "−5 prints 0, −15 prints −2, −25 prints −2. The field 65,535 now means −1 and prints 0."
+    ∷ record {
+      job = stream 1 1 (put 0 (below 5) ∷ put 0 (below 15) ∷ put 0 (below 25) ∷ put 0 65535 ∷ []) (0 ∷ 0 ∷ 0 ∷ 0 ∷ 0 ∷ 0 ∷ 0 ∷ 0 ∷ 0 ∷ 0 ∷ 0 ∷ 0 ∷ 0 ∷ 0 ∷ 0 ∷ 0 ∷ []);
+      expected = "object queue\nop 1 process 0 put 0 first 1 last 4 done\nop 2 process 0 put -2 first 5 last 8 done\nop 3 process 0 put -2 first 9 last 12 done\nop 4 process 0 put 0 first 13 last 16 done\nat 3 put 1\nat 7 put 2\nat 11 put 3\nat 15 put 4\nleft 4 1 2 3 4\n";
+    }
+    -- "−32,768 to 32,767 mm": both ends, and a half beside one of them
+    ∷ record {
+      job = stream 1 1 (put 0 (below 32768) ∷ put 0 (below 32765) ∷ put 0 32767 ∷ []) (0 ∷ 0 ∷ 0 ∷ 0 ∷ 0 ∷ 0 ∷ 0 ∷ 0 ∷ 0 ∷ 0 ∷ 0 ∷ 0 ∷ []);
+      expected = "object queue\nop 1 process 0 put -3277 first 1 last 4 done\nop 2 process 0 put -3276 first 5 last 8 done\nop 3 process 0 put 3277 first 9 last 12 done\nat 3 put 1\nat 7 put 2\nat 11 put 3\nleft 3 1 2 3\n";
+    }
+    -- From here on the traces are our own.
+    -- Queue puts that help and that come too late: Q2 that reads a node, Q3 that fails, Q5 that moves Tail and Q5 that finds it moved, Q4 that
+    -- finds it moved. Process 3 has no operation, so step 1 is idle; process 0 has none left at step 18.
+    -- 2 fails its Q3 at step 7 and helps: Q1 Q2 Q5, then Q1 Q2 Q3 Q4. 3 stands at Q5 until Tail is at node 2: Q1 Q2, Q5 Q1 Q2 Q3 Q4.
+    ∷ record {
+      job = stream 1 4 (put 0 500 ∷ put 1 510 ∷ put 2 520 ∷ []) (3 ∷ 0 ∷ 0 ∷ 1 ∷ 1 ∷ 0 ∷ 1 ∷ 1 ∷ 1 ∷ 2 ∷ 2 ∷ 1 ∷ 1 ∷ 1 ∷ 1 ∷ 1 ∷ 0 ∷ 0 ∷ 2 ∷ 2 ∷ 2 ∷ 2 ∷ 2 ∷ []);
+      expected = "object queue\nop 1 process 0 put 50 first 2 last 17 done\nop 2 process 1 put 51 first 4 last 16 done\nop 3 process 2 put 52 first 10 last 23 done\nat 6 put 1\nat 15 put 2\nat 22 put 3\nleft 3 1 2 3\n";
+    }
+    -- A queue take that helps: T3 that reads a node behind h = t, T4 that moves Tail, then T1 T2 T3 T5. Put 3 finds Tail moved; take 4 runs T5 for
+    -- item 1 before take 2 does, whose own T5 comes when Head is two nodes further. 505 mm, taken, is 50; the two readings are equal,
+    -- the items are not.
+    ∷ record {
+      job = stream 1 3 (put 0 505 ∷ take 1 ∷ put 2 505 ∷ take 2 ∷ take 2 ∷ []) (0 ∷ 0 ∷ 0 ∷ 1 ∷ 1 ∷ 1 ∷ 1 ∷ 2 ∷ 2 ∷ 2 ∷ 2 ∷ 1 ∷ 1 ∷ 1 ∷ 2 ∷ 2 ∷ 2 ∷ 2 ∷ 2 ∷ 2 ∷ 2 ∷ 2 ∷ 1 ∷ 0 ∷ []);
+      expected = "object queue\nop 1 process 0 put 50 first 1 last 24 done\nop 2 process 1 take first 4 last 23 item 1 value 50\nop 3 process 2 put 50 first 8 last 11 done\nop 4 process 2 take first 15 last 18 item 1 value 50\nop 5 process 2 take first 19 last 22 item 3 value 50\nat 3 put 1\nat 10 put 3\nat 18 take 1 by 2 4\nat 22 take 3 by 5\nleft 0\n";
+    }
+    -- A queue take whose T4 finds Tail moved, and that goes round to find the queue empty: its line stands at its last T1, step 13.
+    -- 15 mm below the datum, taken, is -2.
+    ∷ record {
+      job = stream 1 3 (put 0 (below 15) ∷ take 1 ∷ take 2 ∷ []) (0 ∷ 0 ∷ 0 ∷ 1 ∷ 1 ∷ 1 ∷ 0 ∷ 2 ∷ 2 ∷ 2 ∷ 2 ∷ 1 ∷ 1 ∷ 1 ∷ 1 ∷ []);
+      expected = "object queue\nop 1 process 0 put -2 first 1 last 7 done\nop 2 process 1 take first 4 last 15 empty\nop 3 process 2 take first 8 last 11 item 1 value -2\nat 3 put 1\nat 11 take 1 by 3\nat 13 empty by 2\nleft 0\n";
+    }
+    -- Stack puts that meet a mark: P2 that reads it raised, P4 that moves Top (3) and P4 that finds it moved (4), P3 that fails (4). 3 goes on with
+    -- P1 P3, 4 with P1 P3 P1 P2 P3. Take 2 stays open behind its R3; two items are left.
+    ∷ record {
+      job = stream 2 4 (put 0 500 ∷ take 1 ∷ put 2 600 ∷ put 3 700 ∷ []) (0 ∷ 0 ∷ 1 ∷ 1 ∷ 1 ∷ 2 ∷ 2 ∷ 3 ∷ 3 ∷ 2 ∷ 3 ∷ 2 ∷ 3 ∷ 2 ∷ 3 ∷ 3 ∷ 3 ∷ 3 ∷ []);
+      expected = "object stack\nop 1 process 0 put 50 first 1 last 2 done\nop 2 process 1 take first 3 last - open\nop 3 process 2 put 60 first 6 last 14 done\nop 4 process 3 put 70 first 8 last 18 done\nat 2 put 1\nat 3 take 1 by 2\nat 14 put 3\nat 18 put 4\nleft 2 4 3\n";
+    }
+    -- Stack takes that meet a mark: R5 that moves Top (4) and R5 that finds it moved (5), each then R1 R2 R3 R4. R3 by 6, 5, 4 in this order, and
+    -- the line stands at the R1 of 5, the latest of the three. The R4 of 6 moves Top, so take 7 reads none. 515 mm, taken, is 52.
+    ∷ record {
+      job = stream 2 4 (put 0 500 ∷ put 0 515 ∷ take 1 ∷ take 2 ∷ take 3 ∷ take 1 ∷ take 0 ∷ []) (0 ∷ 0 ∷ 0 ∷ 0 ∷ 0 ∷ 1 ∷ 1 ∷ 1 ∷ 2 ∷ 2 ∷ 3 ∷ 3 ∷ 2 ∷ 3 ∷ 1 ∷ 2 ∷ 2 ∷ 1 ∷ 1 ∷ 3 ∷ 3 ∷ 1 ∷ 3 ∷ 2 ∷ 1 ∷ 0 ∷ 3 ∷ 2 ∷ []);
+      expected = "object stack\nop 1 process 0 put 50 first 1 last 2 done\nop 2 process 0 put 52 first 3 last 5 done\nop 3 process 1 take first 6 last 15 item 2 value 52\nop 4 process 2 take first 9 last 28 item 1 value 50\nop 5 process 3 take first 11 last 27 item 1 value 50\nop 6 process 1 take first 18 last 25 item 1 value 50\nop 7 process 0 take first 26 last 26 empty\nat 2 put 1\nat 5 put 2\nat 6 take 2 by 3\nat 20 take 1 by 4 5 6\nat 26 empty by 7\nleft 0\n";
+    }
+    ∷ []
+
+-- the refusal of a trace's file, and the report of its job
+pub record Replayed : Type 0 where
+  pub number : ℕ
+  pub text : List ℕ
+
+unfoldable pub replayed : Trace → Replayed
+replayed t = record { number = file-refusal (file-of (t .job)); text = report (job-of (t .job)) }
+
+-- accepted, with the trace's report
+unfoldable pub promised : Trace → Replayed
+promised t = record { number = 0; text = text (t .expected) }
+
+pub traces-proved : map replayed traces ≡ map promised traces
+unfolding put take below joined-records header stream traces replayed promised pick same less at upd word word-bytes text digits decimal block-size payload-size summed-size add-byte add-bytes sums block payload-of sum-differs misplaced block-refusal kind-number kinds look-up kind-of is-missing kind-found kind processes operations schedule-length record-at process action value scheduled stream-length most-processes most-operations most-steps first-met any outside bad-kind bad-processes bad-operations bad-schedule-length exact-count bad-record bad-records bad-entry bad-schedule bad-padding header-conditions list-conditions most-blocks most-file zeros block-at block-count payloads joined blocks padded file-of bad-length blocks-refusal bad-count stream-refusal file-refusal job-of fresh-memory set-from-to yes-if with-head with-tail with-top with-next with-mark row table position row-of successor end-of is-end ended first-row have-read have-set access seek operation-after before fresh-state reach registers reached row-after place-after resting step state-after answer-at answer-of is-answer event-of is-round is-linked item-of moved-to idle acted note earliest latest made begins-round links joins ends first last answer start link join taken numbers sift largest takers first-move latest-start takes-at is-empty effect if-at line-at lines-to the-record walk left-in left millimetres half-way even-one nearest centimetres signed-decimal stage-text object-line action-text answer-text progress-text operation-line operation-lines spaced effect-text record-line record-lines left-line report
+traces-proved = refl
