@@ -1,15 +1,13 @@
 -- Every register and every cell of a run holds a number of 0 to N, every operation in hand one of 1 to N + 1, and no place stands at an
 -- end: all that the safety of code needs. Assumes nothing.
-use mathlib.Core.Path.{_≡_, refl}
+use mathlib.Core.Path.{_≡_}
 use Prim.Native.Nat.{ℕ, zero, suc, _-_, _≤_, zero-le}
 use native.Mathlib.Omega.{arith}
-use mathlib.Core.Bool.{Bool, true, false}
+use mathlib.Core.Bool.{Bool, false}
 use Rattle.basics.specs.Choice.{pick, same}
 use Rattle.basics.specs.Maps.{upd}
 use Rattle.basics.proofs.Choice.{pick-elim, less-le}
 use Rattle.basics.proofs.Maps.{upd-elim}
-use Rattle.job.specs.declared.Kind.{Kind}
-use Rattle.job.specs.declared.Kind.the-variants.{Queue, Stack}
 use Rattle.job.specs.Job.{Job}
 use Rattle.machine.specs.declared.Place.{Place}
 use Rattle.machine.specs.declared.Access.{Access}
@@ -17,12 +15,13 @@ use Rattle.machine.specs.declared.Access.the-variants.{ReadHead, ReadTai
 use Rattle.machine.specs.declared.Outcome.{Outcome}
 use Rattle.machine.specs.declared.Outcome.the-variants.{Yes, No, Bare}
 use Rattle.machine.specs.Memory.{Memory, fresh-memory, set-from-to, with-head, with-tail, with-top, with-next, with-mark}
-use Rattle.machine.specs.Table.{row-of, end-of, is-end, ended, first-row}
+use Rattle.machine.specs.Table.{row-of, ended}
 use Rattle.machine.specs.Access.{Registers, Reached, have-read, have-set, access}
 use Rattle.machine.specs.Run.{State, operation-after, before, fresh-state, reach, registers, reached, row-after, place-after, resting, step, state-after}
 use Rattle.machine.specs.Notes.{event-of}
 use Rattle.machine.specs.Journal.{item-of}
 use Rattle.machine.proofs.Searches.{seek-from, seek-to}
+use Rattle.machine.proofs.ByKind.{begins-going}
 
 -- every cell of shared memory holds at most N
 pub record MemoryWithin (N : ℕ) (m : Memory) : Type 0 where
@@ -91,14 +90,6 @@ item-within N r w Push No = zero-le
 item-within N r w Push Bare = zero-le
 item-within N r w RaiseMark o = w .t
 item-within N r w TopToNext o = zero-le
-
--- an operation does not begin at an end
-pub begins-going : (kind : Kind) (put : Bool) → ended (first-row kind put) ≡ false
-unfolding ended end-of is-end first-row
-begins-going Queue true = refl
-begins-going Queue false = refl
-begins-going Stack true = refl
-begins-going Stack false = refl
 
 -- a place: its operation, its registers, and a row that is no end
 pub record PlaceWithin (N : ℕ) (p : Place) : Type 0 where

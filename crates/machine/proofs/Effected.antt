@@ -9,14 +9,14 @@ use native.Mathlib.Omega.{arith}
 use Rattle.basics.specs.Choice.{same}
 use Rattle.basics.proofs.Choice.{pick-then, pick-else, same-equal, equal-same, unequal-same, split}
 use Rattle.job.specs.declared.Kind.{Kind}
-use Rattle.job.specs.declared.Kind.the-variants.{Queue, Stack}
 use Rattle.machine.specs.declared.Event.{Event}
 use Rattle.machine.specs.declared.Event.the-variants.{Quiet, Round, Linked, Moved, Late, Raised}
 use Rattle.machine.specs.Multiplicity.{Line}
 use Rattle.machine.specs.Multiplicity.Line.{put, takes, empty}
 use Rattle.machine.specs.Notes.{Answer, Note}
 use Rattle.machine.specs.Journal.{is-round, is-linked, moved-to, made, begins-round, links, answer, start, link, taken}
-use Rattle.machine.specs.Effects.{Effect, numbers, takers, first-move, latest-start, takes-at, is-empty, effect}
+use Rattle.machine.specs.Effects.{Effect, numbers, takers, first-move, latest-start, Rule, rule, stands-by, takes-at, is-empty, effect}
+use Rattle.machine.specs.Effects.Rule.{by-move, by-round}
 use Rattle.machine.specs.Effects.Effect.{none, stands}
 use Rattle.machine.specs.Record.{if-at, line-at}
 use Rattle.machine.specs.Explained.{IsOperation}
@@ -28,24 +28,6 @@ pub data Lineless : Event → Type 0 where
   quiet : Lineless Quiet
   late : {n : ℕ} → Lineless (Late n)
   raised : {t : ℕ} → Lineless (Raised t)
-
--- the two rules for where the line of an item's takers stands: at the first step that moved to it, or at the latest of their last rounds
-pub data Rule : Type 0 where
-  by-move by-round : Rule
-
-abbrev pub stands-by : Rule → (ℕ → Note) → ℕ → ℕ → ℕ → ℕ
-stands-by by-move log count k item = first-move log k item
-stands-by by-round log count k item = latest-start log count k item
-
--- an object's rule
-abbrev pub rule : Kind → Rule
-rule Queue = by-move
-rule Stack = by-round
-
-pub takes-at-rule : (kind : Kind) (log : ℕ → Note) (count k item : ℕ) → takes-at kind log count k item ≡ stands-by (rule kind) log count k item
-unfolding takes-at
-takes-at-rule Queue log count k item = refl
-takes-at-rule Stack log count k item = refl
 
 -- an operation that took an item is among its takers, and they are all
 pub taker-in : (log : ℕ → Note) (count k o item : ℕ) → IsOperation count o → taken log k o ≡ item → List·Memᴰ o (takers log count k item)
@@ -178,7 +160,7 @@ lined kind log count k s o line low e = go (effected kind log count k o)
 
     go : Effected kind log count k o → Lined kind log count k s o
     go (by-put l h) = at-link (subst (λ a. log a .event ≡ Linked) (at h) (link-step log k o l .event))
-    go (by-take l t h) = of-takers (rule kind) refl t (sym (takes-at-rule kind log count k (taken log k o)) ∙ at h)
+    go (by-take l t h) = of-takers (rule kind) refl t (at h)
     go (by-empty l t a h) = at-empty a (at h) (subst (λ a. log a .event ≡ Round) (at h) (start-step log k o (some (at h)) .event))
     go (by-none l t a h) = let z : _≡_ {A = ℕ} 0 1 = cc in absurd (omega arith)
 

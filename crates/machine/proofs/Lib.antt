@@ -1,9 +1,10 @@
 -- The laws by which everything above uses the definitions: lists and searches, what one more step does to a search, the step table as turns,
--- an effect by its cases, the record by its steps, and the bounds of every cell.
+-- what goes by the kind, an effect by its cases, the record by its steps, and the bounds of every cell.
 pub mod Lists
 pub mod Searches
 pub mod Stamps
 pub mod Turns
+pub mod ByKind
 pub mod Effected
 pub mod Placed
 pub mod Bounds

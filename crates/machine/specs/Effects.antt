@@ -39,11 +39,22 @@ first-move log k item = earliest (λ s. same (moved-to (log s .event)) item) k
 unfoldable pub latest-start : (ℕ → Note) → ℕ → ℕ → ℕ → ℕ
 latest-start log count k item = largest (start log k) (takers log count k item)
 
+-- the two rules for where the one line of an item's takers stands
+pub data Rule : Type 0 where
+  by-move by-round : Rule
+
 -- "Queue takes of item n: one line, at the first T5 that moved Head to n." "Stack takes of item t: one line. […] The line stands at the
 -- latest among the members' last R1 steps, not at R3."
+abbrev pub rule : Kind → Rule
+rule Queue = by-move
+rule Stack = by-round
+
+abbrev pub stands-by : Rule → (ℕ → Note) → ℕ → ℕ → ℕ → ℕ
+stands-by by-move log count k item = first-move log k item
+stands-by by-round log count k item = latest-start log count k item
+
 unfoldable pub takes-at : Kind → (ℕ → Note) → ℕ → ℕ → ℕ → ℕ
-takes-at Queue log count k item = first-move log k item
-takes-at Stack log count k item = latest-start log count k item
+takes-at kind log count k item = stands-by (rule kind) log count k item
 
 -- an effect: none, or a line at a step
 pub data Effect : Type 0 where

@@ -8,7 +8,7 @@ use native.Mathlib.Omega.{arith}
 use Rattle.basics.specs.Choice.{same}
 use Rattle.basics.proofs.Choice.{equal-same, unequal-same}
 use Rattle.job.specs.declared.Kind.{Kind}
-use Rattle.job.specs.declared.Kind.the-variants.{Queue, Stack}
+use Rattle.job.specs.declared.Kind.the-variants.{Stack}
 use Rattle.job.specs.Job.{Job}
 use Rattle.machine.specs.Multiplicity.{Line}
 use Rattle.machine.specs.Multiplicity.Line.{put, takes, empty}
@@ -20,6 +20,7 @@ use Rattle.machine.specs.Record.{Recorded, the-record}
 use Rattle.machine.specs.Left.{left}
 use Rattle.machine.specs.Explained.{members, times, Says, OpenLine, Answered, InEffect, IsOperation, Explained}
 use Rattle.machine.specs.Explained.OpenLine.{its-put, its-takes}
+use Rattle.machine.proofs.ByKind.{stack-of}
 use Rattle.machine.proofs.Effected.{Effected, effected, effect-of-put, taker-in}
 use Rattle.machine.proofs.Effected.Effected.{by-put, by-take, by-empty, by-none}
 use Rattle.machine.proofs.Placed.{Placed, placed, recorded, ascends-to}
@@ -38,12 +39,6 @@ use Rattle.theory.proofs.Explains.Once.{with-effect, without-effect}
 pub mod Plays
 pub mod Owns
 pub mod Once
-
--- the one object whose takers stay open behind their joining step
-stack-of : (kind : Kind) → is-stack kind ≡ true → kind ≡ Stack
-unfolding is-stack
-stack-of Queue is = absurd (true≢false (sym is))
-stack-of Stack is = refl
 
 -- whether an unanswered operation took effect, by its link and its T5 or R3
 linked-took-effect : (kind : Kind) (log : ℕ → Note) (k o : ℕ) → link log k o ≢ 0 → took-effect kind log k o ≡ true

@@ -13,13 +13,13 @@ use Rattle.machine.specs.declared.Event.the-variants.{Round, Linked}
 use Rattle.machine.specs.Multiplicity.Line.{put, takes, empty}
 use Rattle.machine.specs.Notes.{Answer}
 use Rattle.machine.specs.Journal.{is-linked, item-of, made, links, joins, answer, start, link, join, taken}
-use Rattle.machine.specs.Effects.{takers, latest-start, takes-at, effect}
+use Rattle.machine.specs.Effects.{takers, latest-start, takes-at, effect, rule}
 use Rattle.machine.specs.Effects.Effect.{stands}
 use Rattle.machine.specs.Record.{line-at}
 use Rattle.machine.specs.Explained.{IsOperation}
-use Rattle.machine.proofs.Effected.{Effected, effected, effect-of-put, rule, RoundLine, lined, lined-round, line-of-effect, line-without-effect}
+use Rattle.machine.proofs.Effected.{Effected, effected, effect-of-put, RoundLine, lined, lined-round, line-of-effect, line-without-effect}
 use Rattle.machine.proofs.Effected.Effected.{by-put, by-take, by-empty, by-none}
-use Rattle.machine.proofs.Effected.Rule.{by-round}
+use Rattle.machine.specs.Effects.Rule.{by-round}
 use Rattle.theory.proofs.Course.{Course, listing}
 use Rattle.theory.proofs.Deeds.{deeds, FoundEmpty, taken-not-linked, empty-found}
 use Rattle.theory.proofs.Life.{life, links-once, joins-once}

@@ -9,9 +9,8 @@ use Rattle.machine.specs.declared.Event.{Event}
 use Rattle.machine.specs.declared.Event.the-variants.{Quiet, Round, Linked, Moved, Late, Raised}
 use Rattle.machine.specs.Notes.{Answer}
 use Rattle.machine.specs.Journal.{is-linked, is-round, item-of}
-use Rattle.machine.specs.Effects.{is-stack}
-use Rattle.machine.proofs.Effected.{Rule, rule}
-use Rattle.machine.proofs.Effected.Rule.{by-move, by-round}
+use Rattle.machine.specs.Effects.{is-stack, Rule, rule}
+use Rattle.machine.specs.Effects.Rule.{by-move, by-round}
 
 pub data Phase : Type 0 where
   -- neither linked, nor in a round, nor ended; a put or a take

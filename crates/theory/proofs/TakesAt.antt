@@ -12,12 +12,12 @@ use Rattle.machine.specs.declared.Event.{Event}
 use Rattle.machine.specs.declared.Event.the-variants.{Quiet, Round, Linked, Moved, Late, Raised}
 use Rattle.machine.specs.Notes.{Answer, Note}
 use Rattle.machine.specs.Journal.{start, taken, moved-to, item-of, is-round}
-use Rattle.machine.specs.Effects.{largest, takers, latest-start, takes-at}
+use Rattle.machine.specs.Effects.{largest, takers, latest-start, takes-at, Rule, stands-by, rule}
 use Rattle.machine.specs.Explained.{IsOperation}
 use Rattle.machine.proofs.Searches.{largest-bounds, largest-attained}
 use Rattle.machine.proofs.Stamps.{start-zero, first-move-zero, start-other, start-unless, taken-other, taken-unless, taken-new, first-move-unless, first-move-new, first-move-stays}
-use Rattle.machine.proofs.Effected.{Rule, stands-by, rule, takes-at-rule, taker-in, taker-out}
-use Rattle.machine.proofs.Effected.Rule.{by-move, by-round}
+use Rattle.machine.proofs.Effected.{taker-in, taker-out}
+use Rattle.machine.specs.Effects.Rule.{by-move, by-round}
 use Rattle.theory.proofs.Phases.{Phase, JoinEvent, Move}
 use Rattle.theory.proofs.Phases.JoinEvent.{moved, late, raised}
 use Rattle.theory.proofs.Phases.Move.{quiet, begins, gives-up, links, links-last, ends-put, joins, joins-last, ends-take, finds-none, begins-bare}
@@ -187,13 +187,16 @@ module _ (log : ℕ → Note) (count : ℕ) where
   module _ (kind : Kind) where
     -- the line of an object's takers stands by its rule
     pub stands-zero : (item : ℕ) → takes-at kind log count 0 item ≡ 0
-    stands-zero item = takes-at-rule kind log count 0 item ∙ by-rule-zero (rule kind) item
+    unfolding takes-at
+    stands-zero item = by-rule-zero (rule kind) item
 
     stands-unmoved : (k item : ℕ) → ((q : ℕ) → IsOperation count q → Unmoved k item q) → moved-to (log (suc k) .event) ≢ item → takes-at kind log count (suc k) item ≡ takes-at kind log count k item
-    stands-unmoved k item parts away = takes-at-rule kind log count (suc k) item ∙ by-rule-unmoved (rule kind) k item parts away ∙ sym (takes-at-rule kind log count k item)
+    unfolding takes-at
+    stands-unmoved k item parts away = by-rule-unmoved (rule kind) k item parts away
 
     stands-is : {r : Rule} → rule kind ≡ r → (k item : ℕ) → takes-at kind log count k item ≡ stands-by r log count k item
-    stands-is e k item = takes-at-rule kind log count k item ∙ ap (λ r. stands-by r log count k item) e
+    unfolding takes-at
+    stands-is e k item = ap (λ r. stands-by r log count k item) e
 
 module _ {kind : Kind} (c : Course kind) where
   -- where an item's takers' line stands

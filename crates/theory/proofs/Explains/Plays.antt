@@ -4,15 +4,15 @@ use Prim.Native.Nat.{ℕ, zero, suc, _+_, _≤_}
 use mathlib.Core.List.{List, [], _∷_, _++_}
 use mathlib.Core.Option.{Option, none, some}
 use native.Mathlib.Omega.{arith}
-use lib.ListN.{length, length-append}
+use lib.ListN.{length}
 use Rattle.basics.proofs.Choice.{pick-then, same-refl}
 use Rattle.job.specs.declared.Kind.{Kind}
-use Rattle.job.specs.declared.Kind.the-variants.{Queue, Stack}
-use Rattle.machine.specs.Multiplicity.{Line, add, remove, find-empty, apply, then, play}
+use Rattle.machine.specs.Multiplicity.{Line, remove, find-empty, apply, then, play}
 use Rattle.machine.specs.Multiplicity.Line.{put, takes, empty}
 use Rattle.machine.specs.Record.{Recorded, line-at, lines-to, lines-of}
 use Rattle.machine.specs.Left.{left-in}
 use Rattle.machine.specs.Explained.{put-lines, take-lines}
+use Rattle.machine.proofs.ByKind.{add-length}
 use Rattle.theory.proofs.Course.{Course}
 use Rattle.theory.proofs.Laws.{Applies, Laws}
 use Rattle.theory.proofs.Laws.Applies.{no-line, puts, removes, finds-none}
@@ -52,11 +52,6 @@ take-lines-append [] b = omega arith
 take-lines-append (put o ∷ a) b = take-lines-append a b
 take-lines-append (takes item takers ∷ a) b = omega (arith, take-lines-append a b)
 take-lines-append (empty o ∷ a) b = take-lines-append a b
-
-add-length : (object : Kind) (item : ℕ) (c : List ℕ) → length (add object item c) ≡ suc (length c)
-unfolding add
-add-length Queue item c = length-append c (item ∷ []) ∙ omega arith
-add-length Stack item c = refl
 
 -- the line at a step, and what it does to the number of items
 counts-applies : (object : Kind) {l : List Recorded} {c d : List ℕ} → Applies object l c d → put-lines (lines-of l) + length c ≡ take-lines (lines-of l) + length d

@@ -16,7 +16,7 @@ use Rattle.machine.specs.Run.{State, operation-after, before, fresh-state, regi
 use Rattle.machine.specs.Notes.{idle, acted, note}
 use Rattle.machine.proofs.Searches.{seek-from, seek-to, seek-meets}
 use Rattle.machine.proofs.Turns.Locals.{Local, reaches, local-after}
-use Rattle.machine.proofs.Bounds.{begins-going}
+use Rattle.machine.proofs.ByKind.{begins-going}
 use Rattle.theory.proofs.Listing.{initial}
 use Rattle.theory.proofs.Operations.Locals.{memory, local}
 

@@ -3,15 +3,15 @@ use mathlib.Core.Path.{_≡_, refl, sym, subst}
 use mathlib.Core.Logic.{_⊎_, inl, inr}
 use Prim.Native.Nat.{ℕ}
 use mathlib.Core.Bool.{true, false}
-use mathlib.Core.List.{List, [], _∷_, List·Memᴰ, List·Memᴰ·not-nil, List·Memᴰ·head, List·Memᴰ·tail, List·Memᴰ·cases-cons, List·Memᴰ·append-cases, List·Memᴰ·eq-of-singleton}
+use mathlib.Core.List.{List, [], _∷_, List·Memᴰ, List·Memᴰ·not-nil, List·Memᴰ·head, List·Memᴰ·tail, List·Memᴰ·cases-cons}
 use mathlib.Core.Option.{Option, none, some}
 use native.Mathlib.Omega.{arith}
 use Rattle.basics.specs.Choice.{pick, same}
 use Rattle.basics.proofs.Choice.{both, pick-then, pick-else, same-equal}
 use Rattle.job.specs.declared.Kind.{Kind}
-use Rattle.job.specs.declared.Kind.the-variants.{Queue, Stack}
 use Rattle.machine.specs.Multiplicity.{Line, add, remove, find-empty, apply, then, play}
 use Rattle.machine.specs.Multiplicity.Line.{put, takes, empty}
+use Rattle.machine.proofs.ByKind.{add-member}
 
 -- every member of a list has a property
 abbrev All : (ℕ → Type 0) → List ℕ → Type 0
@@ -27,14 +27,8 @@ pub handed-out : (P : ℕ → Type 0) {item : ℕ} {takers : List ℕ} → FromP
 handed-out P (of-takes p) = p
 
 module _ (P : ℕ → Type 0) (object : Kind) where
-  add-all : (kind : Kind) (o : ℕ) (c : List ℕ) → P o → All P c → All P (add kind o c)
-  unfolding add
-  add-all Queue o c p all x m = go (List·Memᴰ·append-cases c m)
-    where
-      go : List·Memᴰ x c ⊎ List·Memᴰ x (o ∷ []) → P x
-      go (inl h) = all x h
-      go (inr h) = subst P (sym (List·Memᴰ·eq-of-singleton h)) p
-  add-all Stack o c p all x m = go (List·Memᴰ·cases-cons m)
+  add-all : (o : ℕ) (c : List ℕ) → P o → All P c → All P (add object o c)
+  add-all o c p all x m = go (add-member object o c m)
     where
       go : (x ≡ o) ⊎ List·Memᴰ x c → P x
       go (inl h) = subst P (sym h) p
@@ -45,7 +39,7 @@ module _ (P : ℕ → Type 0) (object : Kind) where
   unfolding apply remove find-empty
   applied (put o) c d e p all =
       let is : add object o c ≡ d = cc in
-      (of-put (p o refl), subst (All P) is (add-all object o c (p o refl) all))
+      (of-put (p o refl), subst (All P) is (add-all o c (p o refl) all))
   applied (takes item []) c d e p all = let z : _≡_ {A = ℕ} 0 1 = cc in absurd (omega arith)
   applied (takes item (taker ∷ takers)) [] d e p all = let z : _≡_ {A = ℕ} 0 1 = cc in absurd (omega arith)
   applied (takes item (taker ∷ takers)) (front ∷ c) d e p all = go (both (same front item))
