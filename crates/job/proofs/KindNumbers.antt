@@ -27,7 +27,7 @@ numbers-differ k l e =
     let p : Found k ≡ Found l = sym (found-by-number k) ∙ ap kind-of e ∙ found-by-number l in
     cc
 
--- a kind that is found has the number, and none is found where none has it
+-- a kind that is found has the number
 found-in : (l : List Kind) (n : ℕ) {k : Kind} → look-up l n ≡ Found k → kind-number k ≡ n
 unfolding look-up
 found-in [] n f = let z : _≡_ {A = ℕ} 0 1 = cc in absurd (omega arith)
@@ -40,18 +40,9 @@ found-in (x ∷ l) n {k} f = by-number (split (kind-number x) n) (found-in l n)
         ap kind-number (sym q) ∙ e
     by-number (inr e) later = later (sym (pick-else _ _ (unequal-same e)) ∙ f)
 
-missing-in : (l : List Kind) (n : ℕ) → ((k : Kind) → kind-number k ≢ n) → look-up l n ≡ Missing
-unfolding look-up
-missing-in [] n none = refl
-missing-in (x ∷ l) n none = pick-else _ _ (unequal-same (none x)) ∙ missing-in l n none
-
 found-has-number : {n : ℕ} {k : Kind} → kind-of n ≡ Found k → kind-number k ≡ n
 unfolding kind-of
 found-has-number {n} f = found-in kinds n f
-
-pub missing : (n : ℕ) → ((k : Kind) → kind-number k ≢ n) → kind-of n ≡ Missing
-unfolding kind-of
-missing n none = missing-in kinds n none
 
 -- a stream is refused for its kind exactly where no kind has its number; where it is not, the number is that of its object
 pub kind-not-bad : (s : List ℕ) (k : Kind) → kind-number k ≡ kind s → bad-kind s ≡ false

@@ -92,8 +92,8 @@ module _ {taken : ℕ → ℕ} {count : ℕ} where
         let here : skip (taken k) ≡ skip item = ap skip e in
         omega arith)))
 
-    pub ended : {rest : ℕ} → rest ≡ beyond item → count - rest ≤ i → Written (member (λ o. same (taken o) item)) count count before after at place
-    ended r past =
+    pub past-bound : {rest : ℕ} → rest ≡ beyond item → count - rest ≤ i → Written (member (λ o. same (taken o) item)) count count before after at place
+    past-bound r past =
         written-past count w (w .up-to) (omega arith) (λ k low high. member-out (λ o. same (taken o) item) k (unequal-same (λ e.
         let late : k + beyond (taken k) ≤ count = b .to k (omega arith) high in
         let here : beyond (taken k) ≡ beyond item = ap beyond e in

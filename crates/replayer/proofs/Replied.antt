@@ -19,7 +19,7 @@ use Rattle.theory.proofs.Theorem.{explained}
 use Rattle.text.specs.Laid.{laid}
 use Rattle.report.specs.Columns.{Reported}
 use Rattle.replayer.specs.Ready.{Ready}
-use Rattle.replayer.proofs.Stream.{filled, filled-long, filled-ready, filled-job}
+use Rattle.replayer.proofs.Stream.{zero-filled, filled-long, filled-ready, filled-job}
 use Rattle.replayer.specs.Replay.{least-report, small-memory, job-in, report-of, replay-number, replay-length, replay-report, replay-work}
 
 -- what a replay says and leaves
@@ -91,15 +91,15 @@ module _ (file work out : List ℕ) where
       file-accepted = sym (pick-else _ _ not-small) ∙ accepted
 
       -- the work memory after the read
-      work-read : read-work file work ≡ filled file ++ drop most-stream work
-      unfolding read-work held filled
+      work-read : read-work file work ≡ zero-filled file ++ drop most-stream work
+      unfolding read-work held zero-filled
       work-read = pick-else _ _ not-small ∙ ap (λ b. held b work) (pick-then _ _ (equal-same file-accepted))
 
-      front-read : take most-stream (read-work file work) ≡ filled file
-      front-read = ap (take most-stream) work-read ∙ take-at (filled file) (drop most-stream work) most-stream (filled-long file file-accepted)
+      front-read : take most-stream (read-work file work) ≡ zero-filled file
+      front-read = ap (take most-stream) work-read ∙ take-at (zero-filled file) (drop most-stream work) most-stream (filled-long file file-accepted)
 
       back-read : drop most-stream (read-work file work) ≡ drop most-stream work
-      back-read = ap (drop most-stream) work-read ∙ drop-at (filled file) (drop most-stream work) most-stream (filled-long file file-accepted)
+      back-read = ap (drop most-stream) work-read ∙ drop-at (zero-filled file) (drop most-stream work) most-stream (filled-long file file-accepted)
 
       read-ready : Ready (take most-stream (read-work file work))
       read-ready = subst Ready (sym front-read) (filled-ready file file-accepted)

@@ -14,7 +14,7 @@ use Rattle.job.specs.Job.{Job, job-of}
 use Rattle.wording.specs.Report.{report}
 use Rattle.wording.proofs.Sizes.{report-bounded}
 use Rattle.replayer.specs.Replay.{least-report, job-in, report-of}
-use Rattle.replayer.proofs.Stream.{filled, at-filled, filled-job, filled-ready}
+use Rattle.replayer.proofs.Stream.{zero-filled, at-filled, filled-job, filled-ready}
 use Rattle.replayer.proofs.Ready.{fits}
 
 payloads-bytes : (file : List ℕ) (i n : ℕ) → Bytes file → Bytes (payloads file i n)
@@ -25,7 +25,7 @@ payloads-bytes file i (suc n) b =
     (payloads-bytes file (suc i) n b)
 
 -- what a replay reads of a file of bytes is bytes
-filled-byte : (file : List ℕ) → file-refusal file ≡ 0 → Bytes file → (i : ℕ) → getD (filled file) i 0 < 256
+filled-byte : (file : List ℕ) → file-refusal file ≡ 0 → Bytes file → (i : ℕ) → getD (zero-filled file) i 0 < 256
 unfolding at joined
 filled-byte file accepted b i =
     subst (λ (f : ℕ → ℕ). f i < 256) (sym (at-filled file accepted)) (payloads-bytes file 0 (block-count file) b .byte i)
@@ -33,6 +33,6 @@ filled-byte file accepted b i =
 pub report-short : (file : List ℕ) → file-refusal file ≡ 0 → Bytes file → length (report-of file) ≤ least-report
 unfolding least-report most-operations report-of job-in
 report-short file accepted b =
-    let byte : (i : ℕ) → getD (filled file) i 0 < 256 = filled-byte file accepted b in
-    let same-length : length (report (job-of (filled file))) ≡ length (report (job-of (stream-of file))) = ap (λ (j : Job). length (report j)) (filled-job file accepted) in
-    omega (arith, report-bounded (job-of (filled file)) (fits (filled-ready file accepted) byte))
+    let byte : (i : ℕ) → getD (zero-filled file) i 0 < 256 = filled-byte file accepted b in
+    let same-length : length (report (job-of (zero-filled file))) ≡ length (report (job-of (stream-of file))) = ap (λ (j : Job). length (report j)) (filled-job file accepted) in
+    omega (arith, report-bounded (job-of (zero-filled file)) (fits (filled-ready file accepted) byte))

@@ -96,8 +96,8 @@ unfolding outside
 inside low high n e = less-le (or-both (less n low) (less high n) e .1)
 
 -- a file's stream, with zeros behind it up to the length of the longest
-unfoldable pub filled : List ℕ → List ℕ
-filled file = stream-of file ++ zeros (most-stream - length (stream-of file))
+unfoldable pub zero-filled : List ℕ → List ℕ
+zero-filled file = stream-of file ++ zeros (most-stream - length (stream-of file))
 
 module _ (file : List ℕ) (accepted : file-refusal file ≡ 0) where
   good : Good-file file
@@ -117,15 +117,15 @@ module _ (file : List ℕ) (accepted : file-refusal file ≡ 0) where
   padding-zero i (inr there) h = padding-byte i h there
 
   -- the stream, with zeros behind it, is read as the joined payloads are
-  pub at-filled : at (filled file) ≡ at (joined file)
-  unfolding filled stream-of
+  pub at-filled : at (zero-filled file) ≡ at (joined file)
+  unfolding zero-filled stream-of
   at-filled =
       at-zeros (take (stream-length (joined file)) (joined file)) _
       ∙ at-cut (joined file) (stream-length (joined file)) (λ i h. padding-zero i (compare (length (joined file)) i) h)
 
   -- its job is the file's
-  pub filled-job : job-of (filled file) ≡ job-of (stream-of file)
-  unfolding filled
+  pub filled-job : job-of (zero-filled file) ≡ job-of (stream-of file)
+  unfolding zero-filled
   filled-job = same-job _ _ (at-zeros (stream-of file) _)
 
   -- every entry of its schedule is one of eight processes
@@ -149,14 +149,14 @@ module _ (file : List ℕ) (accepted : file-refusal file ≡ 0) where
       let cut : length (take (stream-length (joined file)) (joined file)) ≡ min (stream-length (joined file)) (length (joined file)) = length-take (stream-length (joined file)) (joined file) in
       omega arith
 
-  pub filled-long : length (filled file) ≡ most-stream
-  unfolding filled zeros
+  pub filled-long : length (zero-filled file) ≡ most-stream
+  unfolding zero-filled zeros
   filled-long =
       length-append (stream-of file) (replicate (most-stream - length (stream-of file)) 0)
       ∙ ap (λ n. length (stream-of file) + n) (length-replicate (most-stream - length (stream-of file)) 0)
       ∙ (let h : length (stream-of file) ≤ most-stream = stream-fits in omega arith)
 
-  pub filled-ready : Ready (filled file)
+  pub filled-ready : Ready (zero-filled file)
   unfolding operations schedule-length scheduled word bad-operations bad-schedule-length
   filled-ready =
       record {

@@ -17,7 +17,7 @@ use Rattle.machine.proofs.Turns.Locals.{reaches, local-after}
 use Rattle.theory.proofs.Course.{listing, Passes, Acts, Course}
 use Rattle.theory.proofs.Life.{operation-some}
 use Locals.{memory, local}
-use Hands.{place-of, InHand, in-hand, rests, moves, actor-resting, actor-moving, local-zero, local-own, local-other}
+use Hands.{place-of, InHand, in-hand, rests, steps-on, actor-resting, actor-moving, local-zero, local-own, local-other}
 
 -- operation o makes step k + 1, as the definitions have it
 record StepMade (j : Job) (k o : ℕ) : Type 0 where
@@ -48,10 +48,10 @@ module _ (j : Job) (k o : ℕ) (h : InHand j k (j .entry (suc k)) o) where
         operation = record { from-one = h .from-one; to-count = to-count };
         going = h .going;
         by = by;
-        memory-after = ap (λ s. s .memory) (moves j k o h to-count .0);
+        memory-after = ap (λ s. s .memory) (steps-on j k o h to-count .0);
         own-after = own-after;
-        event = ap (λ x. x .event) (moves j k o h to-count .1);
-        answer = ap (λ x. x .answer) (moves j k o h to-count .1) ∙ ap (λ l. answer-of (l .row) (l .registers)) (sym own-after);
+        event = ap (λ x. x .event) (steps-on j k o h to-count .1);
+        answer = ap (λ x. x .answer) (steps-on j k o h to-count .1) ∙ ap (λ l. answer-of (l .row) (l .registers)) (sym own-after);
       }
 
 -- every step is idle or an operation's

@@ -11,7 +11,7 @@ use Rattle.basics.specs.Maps as Maps
 use Rattle.basics.proofs.Choice.{equal-same, unequal-same}
 use Rattle.text.proofs.Laid.{wrote-as}
 use Rattle.text.proofs.Each.{Written, written-none, written-room, written-more, written-same, written-all}
-use Rattle.lines.proofs.Bounds.{skipped, ended}
+use Rattle.lines.proofs.Bounds.{skipped, past-bound}
 use Rattle.lines.proofs.Spaced.{member, member-in, member-out, takers-each}
 use Rattle.lines.proofs.put_takers.Statement.{statement}
 use Rattle.lines.proofs.put_takers.Tie as tie
@@ -86,7 +86,7 @@ same-length c = c .before .loop .inv .wrote .as-long
 returns : tie.Need-returns Inv-loop μ-loop
 returns c =
     let start = c .before .before .before .before .before .before .before .before in
-    wrote-as (takers-each (Maps.at (start .args .taken .now)) (start .args .count) (start .args .item .0)) (written-all (ended (start .pre .2) (start .args .item .0) (c .before .loop .inv) (c .before .before .cell2 .ensures) (c .loop-test .left)) (omega arith))
+    wrote-as (takers-each (Maps.at (start .args .taken .now)) (start .args .count) (start .args .item .0)) (written-all (past-bound (start .pre .2) (start .args .item .0) (c .before .loop .inv) (c .before .before .cell2 .ensures) (c .loop-test .left)) (omega arith))
 
 pub put-takers-spec : {M : Type 1} → statement M
 put-takers-spec =

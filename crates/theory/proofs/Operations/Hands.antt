@@ -78,9 +78,9 @@ module _ (j : Job) (k o : ℕ) (h : InHand j k (j .entry (suc k)) o) where
   rests past = (stepped j (j .entry (suc k)) (state-after j k) (place-of o (local j k o)) (h .place-is) ∙ pick-then _ _ (lt-less past), step-noted j k (place-of o (local j k o)) (h .place-is) ∙ pick-then _ _ (lt-less past))
 
   -- any other makes a step of its operation
-  pub moves : o ≤ j .count → (state-after j (suc k) ≡ record { memory = reaches o (memory j k) (local j k o) .memory; places = upd (state-after j k .places) (j .entry (suc k)) (next-place j (j .entry (suc k)) o (local-after o (memory j k) (local j k o))) }) × (note j (suc k) ≡ acted (place-of o (local j k o)) (reaches o (memory j k) (local j k o)))
+  pub steps-on : o ≤ j .count → (state-after j (suc k) ≡ record { memory = reaches o (memory j k) (local j k o) .memory; places = upd (state-after j k .places) (j .entry (suc k)) (next-place j (j .entry (suc k)) o (local-after o (memory j k) (local j k o))) }) × (note j (suc k) ≡ acted (place-of o (local j k o)) (reaches o (memory j k) (local j k o)))
   unfolding resting place-of state-after reached registers reaches local-after place-after next-place row-after memory
-  moves to-count = (stepped j (j .entry (suc k)) (state-after j k) (place-of o (local j k o)) (h .place-is) ∙ pick-else _ _ (le-less to-count), step-noted j k (place-of o (local j k o)) (h .place-is) ∙ pick-else _ _ (le-less to-count))
+  steps-on to-count = (stepped j (j .entry (suc k)) (state-after j k) (place-of o (local j k o)) (h .place-is) ∙ pick-else _ _ (le-less to-count), step-noted j k (place-of o (local j k o)) (h .place-is) ∙ pick-else _ _ (le-less to-count))
 
 -- an operation's row and registers over a step: its own, and another's
 pub local-own : (j : Job) (k o : ℕ) → note j (suc k) .by ≡ o → local j (suc k) o ≡ local-after o (memory j k) (local j k o)
@@ -128,7 +128,7 @@ module _ (j : Job) (k o : ℕ) (h : InHand j k (j .entry (suc k)) o) where
 
   pub actor-moving : o ≤ j .count → note j (suc k) .by ≡ o
   unfolding acted place-of
-  actor-moving to-count = ap (λ x. x .by) (moves j k o h to-count .1)
+  actor-moving to-count = ap (λ x. x .by) (steps-on j k o h to-count .1)
 
   -- the operation in the hand of another process is another
   apart-from : (p q : ℕ) → p ≢ j .entry (suc k) → o ≤ j .count → (q ≤ j .count → j .owner q ≡ p) → o ≢ q
@@ -136,10 +136,10 @@ module _ (j : Job) (k o : ℕ) (h : InHand j k (j .entry (suc k)) o) where
 
   -- the place of the scheduled process after its step
   place-moved : o ≤ j .count → state-after j (suc k) .places (j .entry (suc k)) ≡ next-place j (j .entry (suc k)) o (local-after o (memory j k) (local j k o))
-  place-moved to-count = ap (λ s. s .places (j .entry (suc k))) (moves j k o h to-count .0) ∙ upd-here _ _ _
+  place-moved to-count = ap (λ s. s .places (j .entry (suc k))) (steps-on j k o h to-count .0) ∙ upd-here _ _ _
 
   place-other : (p : ℕ) → p ≢ j .entry (suc k) → o ≤ j .count → state-after j (suc k) .places p ≡ state-after j k .places p
-  place-other p n to-count = ap (λ s. s .places p) (moves j k o h to-count .0) ∙ upd-there _ _ _ n
+  place-other p n to-count = ap (λ s. s .places p) (steps-on j k o h to-count .0) ∙ upd-there _ _ _ n
 
   -- an operation that goes on stays in the hand
   hand-goes-on : o ≤ j .count → ended (local-after o (memory j k) (local j k o) .row) ≡ false → InHand j (suc k) (j .entry (suc k)) o
