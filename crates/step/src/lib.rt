@@ -45,7 +45,7 @@ pub struct Stepped {
 }
 
 // The same access, noted: what it was for the record, at step k of operation `own`.
-fn written_down(
+fn logged(
     d: Accessed,
     own: Operation,
     k: Step,
@@ -80,52 +80,20 @@ fn perform(
     ensures { λ d. ⌜ cells (now (start .exit)) (now (link .exit)) (now (taken .exit)) (now (stands .exit)) ≡ Journal.noted (heard a (own .0) c (now (next .entry)) (now (mark .entry))) (own .0) (k .0) (cells (now (start .entry)) (now (link .entry)) (now (taken .entry)) (now (stands .entry))) ⌝ }
 {
     match a {
-        Access::ReadHead => written_down(read_head(c), own, k, start, link, taken, stands),
-        Access::ReadTail => written_down(read_tail(c), own, k, start, link, taken, stands),
-        Access::ReadNextOfH => written_down(
-            read_next_of_h(c, next),
-            own,
-            k,
-            start,
-            link,
-            taken,
-            stands,
-        ),
-        Access::ReadNextOfT => written_down(
-            read_next_of_t(c, next),
-            own,
-            k,
-            start,
-            link,
-            taken,
-            stands,
-        ),
-        Access::Link => written_down(link_own(own, c, next), own, k, start, link, taken, stands),
-        Access::TailToOwn => written_down(tail_to_own(own, c), own, k, start, link, taken, stands),
-        Access::TailToN => written_down(tail_to_n(c), own, k, start, link, taken, stands),
-        Access::HeadToN => written_down(head_to_n(c), own, k, start, link, taken, stands),
-        Access::ReadTopToPut => written_down(
-            read_top_to_put(c),
-            own,
-            k,
-            start,
-            link,
-            taken,
-            stands,
-        ),
-        Access::ReadTopToTake => written_down(
-            read_top_to_take(c),
-            own,
-            k,
-            start,
-            link,
-            taken,
-            stands,
-        ),
-        Access::ReadMark => written_down(read_mark(c, mark), own, k, start, link, taken, stands),
-        Access::Push => written_down(push(own, c, next), own, k, start, link, taken, stands),
-        Access::RaiseMark => written_down(raise_mark(c, mark), own, k, start, link, taken, stands),
-        Access::TopToNext => written_down(top_to_next(c, next), own, k, start, link, taken, stands),
+        Access::ReadHead => logged(read_head(c), own, k, start, link, taken, stands),
+        Access::ReadTail => logged(read_tail(c), own, k, start, link, taken, stands),
+        Access::ReadNextOfH => logged(read_next_of_h(c, next), own, k, start, link, taken, stands),
+        Access::ReadNextOfT => logged(read_next_of_t(c, next), own, k, start, link, taken, stands),
+        Access::Link => logged(link_own(own, c, next), own, k, start, link, taken, stands),
+        Access::TailToOwn => logged(tail_to_own(own, c), own, k, start, link, taken, stands),
+        Access::TailToN => logged(tail_to_n(c), own, k, start, link, taken, stands),
+        Access::HeadToN => logged(head_to_n(c), own, k, start, link, taken, stands),
+        Access::ReadTopToPut => logged(read_top_to_put(c), own, k, start, link, taken, stands),
+        Access::ReadTopToTake => logged(read_top_to_take(c), own, k, start, link, taken, stands),
+        Access::ReadMark => logged(read_mark(c, mark), own, k, start, link, taken, stands),
+        Access::Push => logged(push(own, c, next), own, k, start, link, taken, stands),
+        Access::RaiseMark => logged(raise_mark(c, mark), own, k, start, link, taken, stands),
+        Access::TopToNext => logged(top_to_next(c, next), own, k, start, link, taken, stands),
     }
 }
 
