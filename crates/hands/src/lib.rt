@@ -4,23 +4,12 @@ ghost use Prim.Native.Nat.{_+_, _*_, _<_, _≤_};
 ghost use lib.ListN.{length};
 ghost use Rattle.job.specs.Stream.{operations};
 ghost use Rattle.job.specs.Job.{«job-of»};
-ghost use Rattle.machine.specs.Table.{«first-row»};
 ghost use Rattle.machine.specs.Run.{before, «operation-after»};
 use job::Kind;
 use job::Operation;
 use job::Process;
 use machine::Place;
-use machine::Row;
-
-// The row where an operation begins.
-pub fn first_row(object: Kind, put: bool) -> Row
-    ensures { λ r. ⌜ r ≡ first-row object put ⌝ }
-{
-    match object {
-        Kind::Queue => { if put { Row::Q1 } else { Row::T1 } }
-        Kind::Stack => { if put { Row::P1 } else { Row::R1 } }
-    }
-}
+use table::first_row;
 
 // A place before the first step of an operation of the stream's job.
 pub fn begin(stream: &[u8], object: Kind, o: Operation) -> Place

@@ -1,12 +1,13 @@
 // The step table. Document 01: "The two listings are one table of nineteen rows." A row gives its access, its successor if the
 // access succeeds, and if not; where the paper has one successor, both are that.
+use job::Kind;
 use machine::Access;
 use machine::Entry;
 use machine::Row;
 ghost use mathlib.Core.Path.{_≡_};
 ghost use mathlib.Core.Bool.{false};
 ghost use Prim.Native.Nat.{_<_};
-ghost use Rattle.machine.specs.Table.{row-of, ended};
+ghost use Rattle.machine.specs.Table.{row-of, ended, «first-row»};
 ghost use Rattle.table.specs.Position.{entry-at};
 
 // how many rows there are
@@ -199,5 +200,15 @@ pub fn has_ended(r: Row) -> bool
         Row::ItemN => true,
         Row::ItemT => true,
         Row::Empty => true,
+    }
+}
+
+// The row where an operation begins.
+pub fn first_row(object: Kind, put: bool) -> Row
+    ensures { λ r. ⌜ r ≡ first-row object put ⌝ }
+{
+    match object {
+        Kind::Queue => { if put { Row::Q1 } else { Row::T1 } }
+        Kind::Stack => { if put { Row::P1 } else { Row::R1 } }
     }
 }
