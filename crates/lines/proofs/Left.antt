@@ -23,7 +23,7 @@ module _ (object : Kind) (next mark : ℕ → ℕ) where
   pub left-end : (node count : ℕ) → node ≡ 0 → left-from object next mark node count ≡ []
   unfolding left-from sift walk
   left-end node zero e = refl
-  left-end node (suc count) e = ap (sift (stays object mark)) (pick-then [] (node ∷ walk next (next node) count) (equal-same e))
+  left-end node (suc count) e = ap (sift (λ i. stays object (mark i))) (pick-then [] (node ∷ walk next (next node) count) (equal-same e))
 
   -- no further node is asked for
   pub left-none : (node : ℕ) {count walked : ℕ} → count ≤ walked → left-from object next mark node (count - walked) ≡ []
@@ -39,14 +39,14 @@ module _ (object : Kind) (next mark : ℕ → ℕ) where
 
   module _ (node : ℕ) {count walked : ℕ} (h : walked < count) (z : node ≢ 0) where
     -- a node that stays comes first
-    pub left-first : stays object mark node ≡ true → left-from object next mark node (count - walked) ≡ node ∷ left-from object next mark (next node) (count - (walked + 1))
+    pub left-first : stays object (mark node) ≡ true → left-from object next mark node (count - walked) ≡ node ∷ left-from object next mark (next node) (count - (walked + 1))
     unfolding left-from sift
-    left-first t = ap (sift (stays object mark)) (walk-on node h z) ∙ pick-then _ _ t
+    left-first t = ap (sift (λ i. stays object (mark i))) (walk-on node h z) ∙ pick-then _ _ t
 
     -- one that does not is passed
-    pub left-past : stays object mark node ≡ false → left-from object next mark node (count - walked) ≡ left-from object next mark (next node) (count - (walked + 1))
+    pub left-past : stays object (mark node) ≡ false → left-from object next mark node (count - walked) ≡ left-from object next mark (next node) (count - (walked + 1))
     unfolding left-from sift
-    left-past t = ap (sift (stays object mark)) (walk-on node h z) ∙ pick-else _ _ t
+    left-past t = ap (sift (λ i. stays object (mark i))) (walk-on node h z) ∙ pick-else _ _ t
 
 -- the pieces of the last line
 pub left-pieces : (items : List ℕ) {n : ℕ} → n ≡ length items → text "left " ++ decimal n ++ spaced items ++ text "\n" ≡ left-line items

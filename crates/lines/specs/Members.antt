@@ -28,14 +28,14 @@ pub record CellStored (before after : ℕ → ℕ) (i n : ℕ) : Type 0 where
   pub here : after i ≤ n
   pub elsewhere : (k : ℕ) → k ≢ i → after k ≡ before k
 
--- is a node that is reached still there? "for a stack the unmarked nodes"
-unfoldable pub stays : Kind → (ℕ → ℕ) → ℕ → Bool
-stays Queue mark i = true
-stays Stack mark i = same (mark i) 0
+-- is a node that is reached still there, by its mark? "for a stack the unmarked nodes"
+unfoldable pub stays : Kind → ℕ → Bool
+stays Queue mark = true
+stays Stack mark = same mark 0
 
 -- the items that are left, from a node on
 unfoldable pub left-from : Kind → (ℕ → ℕ) → (ℕ → ℕ) → ℕ → ℕ → List ℕ
-left-from object next mark node count = sift (stays object mark) (walk next node count)
+left-from object next mark node count = sift (λ i. stays object (mark i)) (walk next node count)
 
 -- the nodes 0 to `count` are in both arrays, every next is one of them, and so is the first
 pub record NodesThere (next mark : List ℕ) (count node : ℕ) : Type 0 where

@@ -295,7 +295,7 @@ pub fn take_line(
 // Is a node that is reached still there?
 fn stays(object: Kind, mark: &[u16], node: u16) -> bool
     requires { ⌜ node < length (now mark) ⌝ }
-    ensures { λ r. ⌜ r ≡ stays object (Maps.at (now (mark .entry))) node ⌝ }
+    ensures { λ r. ⌜ r ≡ stays object (Maps.at (now (mark .entry)) node) ⌝ }
 {
     match object {
         Kind::Queue => true,

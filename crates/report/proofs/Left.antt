@@ -41,15 +41,10 @@ module _ (f g : ℕ → ℕ) (n : ℕ) (agree : (i : ℕ) → i ≤ n → f i �
       go later (inl e) = omega arith
       go later (inr r) = later r
 
-stays-agrees : (object : Kind) (f g : ℕ → ℕ) (i : ℕ) → f i ≡ g i → stays object f i ≡ stays object g i
-unfolding stays
-stays-agrees Queue f g i e = refl
-stays-agrees Stack f g i e = ap (λ (x : ℕ). same x 0) e
-
 -- the definition's items, by one test for both objects
 left-tested : (object : Kind) (count : ℕ) (m : Memory) → left-from object (m .next) (m .mark) (first-node object (m .next) (m .head) (m .top)) count ≡ left-in object count m
 unfolding left-from left-in first-node stays
-left-tested Queue count m = sift-all (λ i. stays Queue (m .mark) i) (walk (m .next) (m .next (m .head)) count) (λ x p. refl)
+left-tested Queue count m = sift-all (λ i. stays Queue (m .mark i)) (walk (m .next) (m .next (m .head)) count) (λ x p. refl)
 left-tested Stack count m = refl
 
 first-within : (object : Kind) {n : ℕ} {m : Memory} → MemoryWithin n m → first-node object (m .next) (m .head) (m .top) ≤ n
@@ -59,8 +54,7 @@ first-within Stack w = w .top
 
 first-held : (object : Kind) {n : ℕ} {m : Memory} {next mark : List ℕ} {head top : ℕ} → MemoryWithin n m → Remembers n m next mark head top → first-node object (at next) head top ≡ first-node object (m .next) (m .head) (m .top)
 unfolding first-node
-first-held Queue {n} {m} {next} w r =
-    ap (at next) (r .heads) ∙ r .nexts .reads (m .head) (omega arith) (w .head)
+first-held Queue {n} {m} {next} w r = ap (at next) (r .heads) ∙ r .nexts .reads (m .head) (omega arith) (w .head)
 first-held Stack w r = r .tops
 
 module _ (object : Kind) {n : ℕ} {m : Memory} {next mark : List ℕ} {head top : ℕ} (w : MemoryWithin n m) (r : Remembers n m next mark head top) where
@@ -83,8 +77,8 @@ module _ (object : Kind) {n : ℕ} {m : Memory} {next mark : List ℕ} {head top
       let nexts : (i : ℕ) → i ≤ n → at next i ≡ m .next i = λ i h. r .nexts .reads i (omega arith) h in
       let low : first ≤ n = first-within object w in
       ap (λ (x : ℕ). left-from object (at next) (at mark) x n) (first-held object w r)
-      ∙ ap (sift (stays object (at mark))) (walk-agrees (at next) (m .next) n nexts (w .next) first n low)
-      ∙ sift-agrees (stays object (at mark)) (stays object (m .mark)) (walk (m .next) first n) (λ x p. stays-agrees object (at mark) (m .mark) x (r .marks .reads x (omega arith) (walk-within (at next) (m .next) n nexts (w .next) first n low x p)))
+      ∙ ap (sift (λ i. stays object (at mark i))) (walk-agrees (at next) (m .next) n nexts (w .next) first n low)
+      ∙ sift-agrees (λ i. stays object (at mark i)) (λ i. stays object (m .mark i)) (walk (m .next) first n) (λ x p. ap (stays object) (r .marks .reads x (omega arith) (walk-within (at next) (m .next) n nexts (w .next) first n low x p)))
       ∙ left-tested object n m
 
 -- the same of a job after k steps, from a node, an object and a count that are known to be its

@@ -16,5 +16,5 @@ stays-spec =
     (λ c. search needs)
     (λ c. search needs)
     (λ c. search needs)
-    (λ c. sym (ap (λ object. Members.stays object (Maps.at (c .before .before .args .mark .now)) (c .before .before .args .node)) (c .enum-told .given .1)))
-    (λ c. sym (ap (λ object. Members.stays object (Maps.at (c .before .before .before .args .mark .now)) (c .before .before .before .args .node)) (c .before .enum-told2 .given .1))))
+    (λ c. sym (ap (λ object. Members.stays object (Maps.at (c .before .before .args .mark .now) (c .before .before .args .node))) (c .enum-told .given .1)))
+    (λ c. sym (ap (λ object. Members.stays object (Maps.at (c .before .before .before .args .mark .now) (c .before .before .before .args .node))) (c .before .enum-told2 .given .1))))
