@@ -13,7 +13,7 @@ ghost use Rattle.block.specs.Block.{block-size, payload-size, summed-siz
 ghost use Rattle.block.specs.Checked.{number-of, bytes-of, filled};
 
 // The two sums of a block.
-pub struct Sums {
+struct Sums {
     pub a: u16,
     pub b: u16,
 }

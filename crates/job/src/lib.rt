@@ -25,7 +25,7 @@ pub enum Kind {
 }
 
 // What is found under a number: the kind that has it, or that none has.
-pub enum Lookup {
+enum Lookup {
     Found(Kind),
     Missing,
 }

@@ -19,7 +19,7 @@ pub fn store(cell: &mut [u16], i: u16, v: u16)
 }
 
 // Stores a step in a cell that has none yet.
-pub fn store_first(cell: &mut [u16], i: u16, k: Step)
+fn store_first(cell: &mut [u16], i: u16, k: Step)
     requires { ⌜ i < length (now cell) ⌝ }
     ensures { λ r. ⌜ at (now (cell .exit)) ≡ upd (at (now (cell .entry))) i (earlier (at (now (cell .entry)) i) (k .0)) ⌝ }
 {

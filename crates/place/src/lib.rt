@@ -5,7 +5,7 @@ ghost use mathlib.Core.Path.{_≡_};
 ghost use Rattle.place.specs.Place.{onward};
 
 // "a step changes the place of one process and nothing of the other seven": that place is lent, and keeps its operation.
-pub fn advance(p: &mut Place, row: Row, h: u16, t: u16, n: u16)
+fn advance(p: &mut Place, row: Row, h: u16, t: u16, n: u16)
     ensures { λ _. ⌜ now (p .exit) ≡ onward (now (p .entry)) row h t n ⌝ }
 {
     p.row = row;

@@ -39,7 +39,7 @@ fn width(n: u16) -> usize
 }
 
 // A number in decimal, from its last digit to its first.
-pub fn put_decimal(out: &mut [u8], at: usize, n: u16) -> usize
+fn put_decimal(out: &mut [u8], at: usize, n: u16) -> usize
     requires { ⌜ at + length (decimal n) ≤ length (now out) ⌝ }
     ensures { λ r. ⌜ Wrote (now (out .entry)) (now (out .exit)) at r (decimal n) ⌝ }
 {
