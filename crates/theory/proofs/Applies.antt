@@ -1,4 +1,4 @@
--- The line at a step turns contents into others, from what the line and the contents are said to be. Both objects use it. Assumes nothing.
+-- The line at a step turns contents into others, from what the line and the contents are said to be. Every object uses it. Assumes nothing.
 use mathlib.Core.Path.{_≡_, sym, subst₂, subst₃}
 use Prim.Native.Nat.{ℕ}
 use mathlib.Core.List.{List, [], _∷_, List·Memᴰ}

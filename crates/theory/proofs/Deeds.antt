@@ -16,7 +16,7 @@ use Rattle.theory.proofs.Phases.{Phase, Open, Move, joining-item, joini
 use Rattle.theory.proofs.Phases.Phase.{going, in-round, linked, joined, done, got, bare}
 use Rattle.theory.proofs.Phases.Move.{quiet, begins, gives-up, links, links-last, ends-put, joins, joins-last, ends-take, finds-none, begins-bare}
 
--- what an operation did, as numbers of steps (0: not): its link, its T5 or R3, the item of that, its last T1 or R1, its end; and its answer
+-- what an operation did, as numbers of steps (0: not): its link, its joining step, the item of that, its last round, its end; and its answer
 pub record Deeds : Type 0 where
   pub link : ℕ
   pub join : ℕ
@@ -220,7 +220,7 @@ module _ {k : ℕ} {e : Event} {a : Answer} {d d′ : Deeds} (f : After k e a d 
         started = stays-started r (h .started);
       }
 
-  -- a T5
+  -- a step that joins and ends by that
   takes-now : is-linked e ≡ false → is-round e ≡ false → InRound d → TookN (item-of e) d′
   takes-now l r g = by-item (split (item-of e) 0)
     where
@@ -236,7 +236,7 @@ module _ {k : ℕ} {e : Event} {a : Answer} {d d′ : Deeds} (f : After k e a d 
           let h : HasJoined (item-of e) d′ = joins-now n l r g in
           record { no-link = h .no-link; took = h .took; started = h .started; joined = λ m. h .joined }
 
-  -- a T3 or R1 that finds nothing
+  -- a step that finds nothing
   finds-empty : is-linked e ≡ false → item-of e ≡ 0 → d′ .start ≢ 0 → Going d → FoundEmpty d′
   finds-empty l i n g =
       record {

@@ -40,7 +40,7 @@ pub mod Plays
 pub mod Owns
 pub mod Once
 
--- whether an unanswered operation took effect, by its link and its T5 or R3
+-- whether an unanswered operation took effect, by its link and its joining step
 linked-took-effect : (kind : Kind) (log : ℕ → Note) (k o : ℕ) → link log k o ≢ 0 → took-effect kind log k o ≡ true
 unfolding took-effect
 linked-took-effect kind log k o l = ap (λ t. not t || is-stack kind && not (same (join log k o) 0)) (unequal-same l)

@@ -28,7 +28,7 @@ pub record Laws {kind : Kind} (c : Course kind) (k : ℕ) : Type 0 where
   pub begins : contents 0 ≡ []
   pub applies : (s : ℕ) → s < k → Applies kind (line-at kind (c .log) (c .count) k (suc s)) (contents s) (contents (suc s))
   pub finishes : contents k ≡ left-in kind (c .count) (c .memory k)
-  -- the line of an item's takers: not before the first step of any of them, not after its T5 or R3, and made by one of them
+  -- the line of an item's takers: not before the first step of any of them, not after its joining step, and made by one of them
   pub from-first : (o : ℕ) → IsOperation (c .count) o → taken (c .log) k o ≢ 0 → first (c .log) k o ≤ takes-at kind (c .log) (c .count) k (taken (c .log) k o)
   pub to-join : (o : ℕ) → IsOperation (c .count) o → taken (c .log) k o ≢ 0 → takes-at kind (c .log) (c .count) k (taken (c .log) k o) ≤ join (c .log) k o
   -- an item that was handed out is a node
