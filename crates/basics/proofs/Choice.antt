@@ -37,11 +37,6 @@ unfolding pick
 pick-elim P true a b f g = f refl
 pick-elim P false a b f g = g refl
 
-pub pick-same {ℓ} : {A : Type ℓ} (t : Bool) (a : A) → pick t a a ≡ a
-unfolding pick
-pick-same true a = refl
-pick-same false a = refl
-
 T-of : (b : Bool) → b ≡ true → T b
 T-of b e = subst T (sym e) tt
 

@@ -28,6 +28,11 @@ pub record CellStored (before after : ℕ → ℕ) (i n : ℕ) : Type 0 where
   pub here : after i ≤ n
   pub elsewhere : (k : ℕ) → k ≢ i → after k ≡ before k
 
+-- the node from which the items that are left are walked: "for a queue the nodes linked behind Head […]; for a stack […] from Top down"
+unfoldable pub first-node : Kind → (ℕ → ℕ) → ℕ → ℕ → ℕ
+first-node Queue next head top = next head
+first-node Stack next head top = top
+
 -- is a node that is reached still there, by its mark? "for a stack the unmarked nodes"
 unfoldable pub stays : Kind → ℕ → Bool
 stays Queue mark = true

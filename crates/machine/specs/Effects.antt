@@ -49,10 +49,12 @@ abbrev pub rule : Kind → Rule
 rule Queue = by-move
 rule Stack = by-round
 
+-- the step at which it stands, by the rule
 abbrev pub stands-by : Rule → (ℕ → Note) → ℕ → ℕ → ℕ → ℕ
 stands-by by-move log count k item = first-move log k item
 stands-by by-round log count k item = latest-start log count k item
 
+-- and by the object
 unfoldable pub takes-at : Kind → (ℕ → Note) → ℕ → ℕ → ℕ → ℕ
 takes-at kind log count k item = stands-by (rule kind) log count k item
 

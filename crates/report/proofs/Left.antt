@@ -17,8 +17,8 @@ use Rattle.machine.specs.Effects.{sift}
 use Rattle.machine.specs.Left.{walk, left-in, left}
 use Rattle.machine.proofs.Lists.{sift-agrees, sift-all}
 use Rattle.machine.proofs.Bounds.{MemoryWithin, within}
-use Rattle.lines.specs.Members.{stays, left-from, NodesThere}
-use Rattle.report.specs.Columns.{Remembers, first-node}
+use Rattle.lines.specs.Members.{first-node, stays, left-from, NodesThere}
+use Rattle.report.specs.Columns.{Remembers}
 
 module _ (f g : ℕ → ℕ) (n : ℕ) (agree : (i : ℕ) → i ≤ n → f i ≡ g i) (within : (i : ℕ) → g i ≤ n) where
   -- walks by nexts that agree on all nodes are the same

@@ -4,8 +4,6 @@ use Prim.Native.Nat.{ℕ, _≤_, _<_}
 use mathlib.Core.List.{List}
 use lib.ListN.{length}
 use Rattle.basics.specs.Maps.{at}
-use Rattle.job.specs.declared.Kind.{Kind}
-use Rattle.job.specs.declared.Kind.the-variants.{Queue, Stack}
 use Rattle.job.specs.Job.{Job}
 use Rattle.machine.specs.Memory.{Memory}
 use Rattle.machine.specs.Notes.{note}
@@ -57,11 +55,6 @@ pub record Remembers (count : ℕ) (m : Memory) (next mark : List ℕ) (head top
   pub marks : Column 0 count mark (m .mark)
   pub heads : head ≡ m .head
   pub tops : top ≡ m .top
-
--- the node from which the items that are left are walked: "for a queue the nodes linked behind Head […]; for a stack […] from Top down"
-unfoldable pub first-node : Kind → (ℕ → ℕ) → ℕ → ℕ → ℕ
-first-node Queue next head top = next head
-first-node Stack next head top = top
 
 -- a text was written at the front of a memory: the bytes past it are as before, and its length is told
 pub record Reported (before after : List ℕ) (told : ℕ) (bytes : List ℕ) : Type 0 where

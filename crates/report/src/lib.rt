@@ -18,7 +18,7 @@ ghost use Rattle.basics.specs.Maps as Maps;
 ghost use Rattle.text.specs.Laid.{Wrote};
 ghost use Rattle.job.specs.Stream.{stream-length};
 ghost use Rattle.job.specs.Job.{job-of};
-ghost use Rattle.lines.specs.Members.{Bounds};
+ghost use Rattle.lines.specs.Members.{Bounds, «first-node»};
 ghost use Rattle.machine.specs.Run.{state-after};
 ghost use Rattle.machine.specs.Notes.{note};
 ghost use Rattle.machine.specs.Idle.{IdleBehind};
@@ -26,7 +26,7 @@ ghost use Rattle.machine.specs.Record.{run-line, run-lines};
 ghost use Rattle.machine.specs.Left.{left};
 ghost use Rattle.machine.specs.Explained as Explained;
 ghost use Rattle.wording.specs.Report.{operation-line, operation-lines, record-lines, left-line, report};
-ghost use Rattle.report.specs.Columns.{MadeBy, Column, HoldsRun, HoldsAnswers, HoldsEffects, Remembers, first-node, Reported};
+ghost use Rattle.report.specs.Columns.{MadeBy, Column, HoldsRun, HoldsAnswers, HoldsEffects, Remembers, Reported};
 
 // The items whose takers are looked for between bounds: as many as a job has. Of any other, all operations are looked at.
 const ITEMS: usize = 257;

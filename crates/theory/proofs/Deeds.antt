@@ -1,5 +1,5 @@
 -- What an operation did, and by its phase what it has done; how a step of its own changes that. Assumes nothing.
-use mathlib.Core.Path.{_≡_, refl, sym, subst, _∙_}
+use mathlib.Core.Path.{_≡_, refl, sym, ap, subst, _∙_}
 use mathlib.Core.Logic.{_≢_, _⊎_, inl, inr}
 use Prim.Native.Nat.{ℕ, suc}
 use mathlib.Core.Bool.{true, false, true≢false}
@@ -328,12 +328,21 @@ taken-not-linked kind d done g t = absurd (t (g .0 .not-taken))
 taken-not-linked kind d (got n) g t = g .0 .no-link
 taken-not-linked kind d bare g t = g .0 .no-link
 
--- who answers empty found nothing
-pub empty-found : (kind : Kind) (d : Deeds) (p : Phase) → Did kind p d → d .answer ≡ Answer.empty → FoundEmpty d
-empty-found kind d (going put) g a = let n = g .no-answer in let z : _≡_ {A = ℕ} 0 1 = cc in absurd (omega arith)
-empty-found kind d in-round g a = let n = g .going .no-answer in let z : _≡_ {A = ℕ} 0 1 = cc in absurd (omega arith)
-empty-found kind d linked g a = let n = g .1 .no-answer in let z : _≡_ {A = ℕ} 0 1 = cc in absurd (omega arith)
-empty-found kind d (joined item) g a = let n = g .2 .no-answer in let z : _≡_ {A = ℕ} 0 1 = cc in absurd (omega arith)
-empty-found kind d done g a = let n = g .1 .answered in let z : _≡_ {A = ℕ} 0 1 = cc in absurd (omega arith)
-empty-found kind d (got item) g a = let n = g .1 .answered in let z : _≡_ {A = ℕ} 0 1 = cc in absurd (omega arith)
-empty-found kind d bare g a = g .0
+-- the phase of who answers empty, and of who answers an item
+pub empty-phase : (kind : Kind) (d : Deeds) (p : Phase) → Did kind p d → d .answer ≡ Answer.empty → p ≡ bare
+empty-phase kind d (going put) g a = let n = g .no-answer in let z : _≡_ {A = ℕ} 0 1 = cc in absurd (omega arith)
+empty-phase kind d in-round g a = let n = g .going .no-answer in let z : _≡_ {A = ℕ} 0 1 = cc in absurd (omega arith)
+empty-phase kind d linked g a = let n = g .1 .no-answer in let z : _≡_ {A = ℕ} 0 1 = cc in absurd (omega arith)
+empty-phase kind d (joined item) g a = let n = g .2 .no-answer in let z : _≡_ {A = ℕ} 0 1 = cc in absurd (omega arith)
+empty-phase kind d done g a = let n = g .1 .answered in let z : _≡_ {A = ℕ} 0 1 = cc in absurd (omega arith)
+empty-phase kind d (got item) g a = let n = g .1 .answered in let z : _≡_ {A = ℕ} 0 1 = cc in absurd (omega arith)
+empty-phase kind d bare g a = refl
+
+pub item-phase : (kind : Kind) (d : Deeds) (p : Phase) → Did kind p d → (n : ℕ) → d .answer ≡ Answer.item n → p ≡ got n
+item-phase kind d (going put) g n a = let b = g .no-answer in let z : _≡_ {A = ℕ} 0 1 = cc in absurd (omega arith)
+item-phase kind d in-round g n a = let b = g .going .no-answer in let z : _≡_ {A = ℕ} 0 1 = cc in absurd (omega arith)
+item-phase kind d linked g n a = let b = g .1 .no-answer in let z : _≡_ {A = ℕ} 0 1 = cc in absurd (omega arith)
+item-phase kind d (joined item) g n a = let b = g .2 .no-answer in let z : _≡_ {A = ℕ} 0 1 = cc in absurd (omega arith)
+item-phase kind d done g n a = let b = g .1 .answered in let z : _≡_ {A = ℕ} 0 1 = cc in absurd (omega arith)
+item-phase kind d (got item) g n a = let b = g .1 .answered in let is : item ≡ n = cc in ap got is
+item-phase kind d bare g n a = let b = g .1 .answered in let z : _≡_ {A = ℕ} 0 1 = cc in absurd (omega arith)

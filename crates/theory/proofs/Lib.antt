@@ -4,6 +4,7 @@ pub mod Listing
 pub mod Course
 pub mod Deeds
 pub mod Life
+pub mod Outcomes
 pub mod Lines
 pub mod Laws
 pub mod Applies

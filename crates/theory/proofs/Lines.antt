@@ -1,6 +1,6 @@
 -- The line at a step of a course, by the step's event: what it is where a put links, where the takers' line stands and where a take that finds nothing
 -- begins its last round, and that it is nothing elsewhere. Assumes nothing.
-use mathlib.Core.Path.{_≡_, refl, sym, ap, _∙_}
+use mathlib.Core.Path.{_≡_, refl, sym, ap, subst, _∙_}
 use mathlib.Core.Logic.{_≢_, _⊎_, inl, inr}
 use Prim.Native.Nat.{ℕ, _≤_}
 use mathlib.Core.Bool.{true, and-eq-true-iff}
@@ -21,13 +21,15 @@ use Rattle.machine.proofs.Effected.{Effected, effected, effect-of-put, RoundLin
 use Rattle.machine.proofs.Effected.Effected.{by-put, by-take, by-empty, by-none}
 use Rattle.machine.specs.Effects.Rule.{by-round}
 use Rattle.theory.proofs.Course.{Course, listing}
-use Rattle.theory.proofs.Deeds.{deeds, FoundEmpty, taken-not-linked, empty-found}
+use Rattle.theory.proofs.Deeds.{deeds, FoundEmpty, Did, taken-not-linked, empty-phase}
 use Rattle.theory.proofs.Life.{life, links-once, joins-once}
 
 module _ {kind : Kind} (c : Course kind) (k o : ℕ) (op : IsOperation (c .count) o) where
   pub found-nothing : answer (c .log) k o ≡ Answer.empty → FoundEmpty (deeds (c .log) k o)
   unfolding deeds
-  found-nothing a = empty-found kind (deeds (c .log) k o) (listing kind .phase (life c k o op .on)) (life c k o op .did) a
+  found-nothing a =
+      let lives = life c k o op in
+      subst (λ p. Did kind p (deeds (c .log) k o)) (empty-phase kind (deeds (c .log) k o) (listing kind .phase (lives .on)) (lives .did) a) (lives .did) .0
 
   pub effect-of-taker : taken (c .log) k o ≢ 0 → effect kind (c .log) (c .count) k o ≡ stands (takes-at kind (c .log) (c .count) k (taken (c .log) k o)) (takes (taken (c .log) k o) (takers (c .log) (c .count) k (taken (c .log) k o)))
   unfolding deeds

@@ -59,7 +59,7 @@ module _ (c : Course Stack) (k : ℕ) where
 
     has-round : start (c .log) k o ≢ 0
     unfolding deeds
-    has-round = taker-of c k o op (taken (c .log) k o) refl some .started
+    has-round = taker-of c k o op (taken (c .log) k o) refl some .1
 
     from-first : first (c .log) k o ≤ takes-at Stack (c .log) (c .count) k (taken (c .log) k o)
     from-first = omega (arith, start-from-first c k o has-round, item-line .after-all o op refl)

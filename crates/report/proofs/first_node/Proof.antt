@@ -2,7 +2,7 @@
 use mathlib.Core.Path.{sym, ap}
 use borrow.Author.Needs.{needs}
 use Rattle.basics.specs.Maps as Maps
-use Rattle.report.specs.Columns.{first-node}
+use Rattle.lines.specs.Members.{first-node}
 use Rattle.report.proofs.first_node.Statement.{statement}
 use Rattle.report.proofs.first_node.Tie as tie
 

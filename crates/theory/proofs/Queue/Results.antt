@@ -1,6 +1,6 @@
 -- What a queue operation took or answered after k steps, with what it knows by that: Head moved to the item of a taker after its last T1
 -- and not after its T5, and one that answers empty had nothing behind Head at its last T1. Assumes nothing.
-use mathlib.Core.Path.{_≡_, refl, sym, ap, subst, _∙_}
+use mathlib.Core.Path.{_≡_, refl, sym, ap, _∙_}
 use mathlib.Core.Logic.{_≢_, _⊎_, inl, inr}
 use Prim.Native.Nat.{ℕ, zero, suc, _≤_}
 use native.Mathlib.Omega.{arith}
@@ -16,77 +16,57 @@ use Rattle.machine.proofs.Turns.Queue.On.{at-q1, at-q2, at-q3, at-q4, at-q5, at
 use Rattle.machine.proofs.Stamps.{first-move-le}
 use Rattle.machine.proofs.Effected.{first-move-event}
 use Rattle.theory.proofs.Course.{Course, PassesIn, ActsIn, passes-event}
-use Rattle.theory.proofs.Deeds.{Deeds, deeds, Did}
+use Rattle.theory.proofs.Deeds.{deeds}
 use Rattle.theory.proofs.Life.{operation-some, life, start-from-first}
+use Rattle.theory.proofs.Outcomes.{Known, taker-knows, empty-knows, item-known}
 use Rattle.theory.proofs.Lines.{joiner-took}
 use Rattle.theory.proofs.Queue.Listing.{phase}
 use Rattle.theory.proofs.Queue.Memory.{Now}
 use Rattle.theory.proofs.Queue.Rows.{Served, Knows}
-use Rattle.theory.proofs.Queue.Rows.Knows.{in-q1, in-q2, in-q3, in-q4, in-q5, in-t1, in-t2, in-t3, in-t4, in-t5, in-done, in-item, in-empty}
+use Rattle.theory.proofs.Queue.Rows.Knows.{in-item, in-empty}
 use Rattle.theory.proofs.Queue.Now.{moved, moved-is, now, front}
 use Rattle.theory.proofs.Queue.Always.{always}
 
--- an operation took and answered nothing so far, or is done, or has an item, or found none
-data Result (front : ℕ → ℕ) (start join : ℕ) (v : Now) (d : Deeds) : Type 0 where
-  no-result : d .taken ≡ 0 → d .answer ≡ Answer.none → Result front start join v d
-  put : d .taken ≡ 0 → d .answer ≡ Answer.done → Result front start join v d
-  got : {n : ℕ} → Served n start join v → d .taken ≡ n → d .start ≢ 0 → d .answer ≡ Answer.item n → Result front start join v d
-  found-none : front start ≡ 0 → d .taken ≡ 0 → d .answer ≡ Answer.empty → Result front start join v d
-
-result-at : {front : ℕ → ℕ} {o start join : ℕ} {v : Now} {l : Local} (d : Deeds) (x : On l) → Did Queue (phase x) d → Knows front o start join v l → Result front start join v d
-result-at d at-q1 did in-q1 = no-result (did .not-taken) (did .no-answer)
-result-at d at-q2 did (in-q2 p) = no-result (did .not-taken) (did .no-answer)
-result-at d at-q3 did (in-q3 p) = no-result (did .not-taken) (did .no-answer)
-result-at d at-q4 did (in-q4 p) = no-result (did .0 .not-taken) (did .1 .no-answer)
-result-at d at-q5 did (in-q5 p) = no-result (did .not-taken) (did .no-answer)
-result-at d at-t1 did in-t1 = no-result (did .not-taken) (did .no-answer)
-result-at d at-t2 did (in-t2 p) = no-result (did .going .not-taken) (did .going .no-answer)
-result-at d at-t3 did (in-t3 p q) = no-result (did .going .not-taken) (did .going .no-answer)
-result-at d at-t4 did (in-t4 p) = no-result (did .going .not-taken) (did .going .no-answer)
-result-at d at-t5 did (in-t5 p q h) = no-result (did .going .not-taken) (did .going .no-answer)
-result-at d at-done did in-done = put (did .0 .not-taken) (did .1 .answered)
-result-at d at-item did (in-item p) = got p (did .0 .took) (did .0 .started) (did .1 .answered)
-result-at d at-empty did (in-empty p) = found-none p (did .0 .not-taken) (did .1 .answered)
+known-at : {front : ℕ → ℕ} {o start join : ℕ} {v : Now} {l : Local} (x : On l) → Knows front o start join v l → Known (λ n. Served n start join v) (front start ≡ 0) (phase x)
+known-at at-q1 p = tt
+known-at at-q2 p = tt
+known-at at-q3 p = tt
+known-at at-q4 p = tt
+known-at at-q5 p = tt
+known-at at-t1 p = tt
+known-at at-t2 p = tt
+known-at at-t3 p = tt
+known-at at-t4 p = tt
+known-at at-t5 p = tt
+known-at at-done p = tt
+known-at at-item (in-item p) = (p, p .some-item)
+known-at at-empty (in-empty p) = p
 
 module _ (c : Course Queue) (k o : ℕ) (op : IsOperation (c .count) o) where
-  abbrev ResultOf : Type 0
-  ResultOf = Result (front c) (start (c .log) k o) (join (c .log) k o) (now c k) (deeds (c .log) k o)
+  -- what is known of its item
+  abbrev ServedHere : ℕ → Type 0
+  ServedHere n = Served n (start (c .log) k o) (join (c .log) k o) (now c k)
 
-  result : ResultOf
-  result = result-at (deeds (c .log) k o) (life c k o op .on) (life c k o op .did) (always c k .knows o (operation-some op))
+  abbrev FrontGone : Type 0
+  FrontGone = front c (start (c .log) k o) ≡ 0
+
+  known : Known ServedHere FrontGone (phase (life c k o op .on))
+  known = known-at (life c k o op .on) (always c k .knows o (operation-some op))
 
   -- who answers empty had nothing behind Head at its last T1
   pub empty-found-none : answer (c .log) k o ≡ Answer.empty → front c (start (c .log) k o) ≡ 0
   unfolding deeds
-  empty-found-none e = go result
-    where
-      go : ResultOf → front c (start (c .log) k o) ≡ 0
-      go (no-result t a) = absurd (let z : _≡_ {A = ℕ} 0 1 = cc in omega arith)
-      go (put t a) = absurd (let z : _≡_ {A = ℕ} 0 1 = cc in omega arith)
-      go (got p t s a) = absurd (let z : _≡_ {A = ℕ} 0 1 = cc in omega arith)
-      go (found-none f t a) = f
+  empty-found-none e = empty-knows ServedHere FrontGone Queue (deeds (c .log) k o) (phase (life c k o op .on)) (life c k o op .did) known e
 
   pub item-is-node : (n : ℕ) → answer (c .log) k o ≡ Answer.item n → n ≢ 0
   unfolding deeds
-  item-is-node n e = go result
-    where
-      go : ResultOf → n ≢ 0
-      go (no-result t a) = absurd (let z : _≡_ {A = ℕ} 0 1 = cc in omega arith)
-      go (put t a) = absurd (let z : _≡_ {A = ℕ} 0 1 = cc in omega arith)
-      go (got {n = m} p t s a) = let same-item : n ≡ m = cc in λ z. p .some-item (sym same-item ∙ z)
-      go (found-none f t a) = absurd (let z : _≡_ {A = ℕ} 0 1 = cc in omega arith)
+  item-is-node n e = item-known ServedHere FrontGone Queue (deeds (c .log) k o) (phase (life c k o op .on)) (life c k o op .did) known n e
 
   -- a taker
   module _ (took : taken (c .log) k o ≢ 0) where
     taken-result : Served (taken (c .log) k o) (start (c .log) k o) (join (c .log) k o) (now c k) × (start (c .log) k o ≢ 0)
     unfolding deeds
-    taken-result = go result
-      where
-        go : ResultOf → Served (taken (c .log) k o) (start (c .log) k o) (join (c .log) k o) (now c k) × (start (c .log) k o ≢ 0)
-        go (no-result t a) = absurd (took t)
-        go (put t a) = absurd (took t)
-        go (got p t s a) = (subst (λ n. Served n (start (c .log) k o) (join (c .log) k o) (now c k)) (sym t) p, s)
-        go (found-none f t a) = absurd (took t)
+    taken-result = taker-knows ServedHere FrontGone Queue (deeds (c .log) k o) (phase (life c k o op .on)) (life c k o op .did) known took
 
     moved-first : moved (c .log) k (taken (c .log) k o) ≡ first-move (c .log) k (taken (c .log) k o)
     moved-first = moved-is (c .log) k took

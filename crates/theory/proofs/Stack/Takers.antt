@@ -19,7 +19,7 @@ use Rattle.theory.proofs.Lines.{joiner-took}
 use Rattle.theory.proofs.Stack.Raised.{raised, raised-le, raised-event, raised-least}
 use Rattle.theory.proofs.Stack.Steps.{Happens, Raises, rests, pushes, pops, raises, begins}
 use Rattle.theory.proofs.Stack.Keeps.{keeps, happens}
-use Rattle.theory.proofs.Stack.Deeds.{Taker, taker-of}
+use Rattle.theory.proofs.Stack.Deeds.{HeldHere, taker-of}
 
 -- a step for an item is an R3 of an operation on it
 raised-by : (c : Course Stack) (k t : ℕ) → Happens c k → item-of (c .log (suc k) .event) ≡ t → t ≢ 0 → (o : ℕ) × Raises c k o t
@@ -76,7 +76,7 @@ module _ (c : Course Stack) (k t : ℕ) (some : t ≢ 0) where
   takers-line n =
       let a : (o : ℕ) × List·Memᴰ o (takers (c .log) (c .count) k t) × (start (c .log) k o ≡ latest-start (c .log) (c .count) k t) = largest-attained (start (c .log) k) (takers (c .log) (c .count) k t) n in
       let m : IsOperation (c .count) (a .0) × (taken (c .log) k (a .0) ≡ t) = taker-out (c .log) (c .count) k (a .0) t (a .1) in
-      let h : Taker t (raised (c .log) k t) (c .memory (start (c .log) k (a .0)) .top) (deeds (c .log) k (a .0)) = taker-of c k (a .0) (m .0) t (m .1) some in
+      let h : HeldHere c k (a .0) (m .0) t × (start (c .log) k (a .0) ≢ 0) = taker-of c k (a .0) (m .0) t (m .1) some in
       let r : raised (c .log) k t ≢ 0 = raised-to-join (a .0) (m .1) .0 in
       record {
         taker = a .0;
@@ -84,15 +84,15 @@ module _ (c : Course Stack) (k t : ℕ) (some : t ≢ 0) where
         takes-it = m .1;
         last-round = a .2;
         step = subst (λ s. MadeStep (c .log) s (a .0) Round) (a .2) (start-step (c .log) k (a .0) (λ z. n (sym (a .2) ∙ z)));
-        was-top = subst (λ s. c .memory s .top ≡ t) (a .2) (h .held .was-top);
+        was-top = subst (λ s. c .memory s .top ≡ t) (a .2) (h .0 .was-top);
         was-raised = r;
-        before-raised = subst (λ s. s < raised (c .log) k t) (a .2) (h .held .before r);
+        before-raised = subst (λ s. s < raised (c .log) k t) (a .2) (h .0 .before r);
       }
 
   -- an item that was taken has a line
   pub taken-has-line : (o : ℕ) → IsOperation (c .count) o → taken (c .log) k o ≡ t → latest-start (c .log) (c .count) k t ≢ 0
   unfolding deeds
-  taken-has-line o op e z = taker-of c k o op t e some .started (omega (arith, line-after-rounds o op e))
+  taken-has-line o op e z = taker-of c k o op t e some .1 (omega (arith, line-after-rounds o op e))
 
   -- a node on which an R3 was made has a line, and one with a line is marked
   pub raised-has-line : raised (c .log) k t ≢ 0 → latest-start (c .log) (c .count) k t ≢ 0
