@@ -4,6 +4,7 @@ use mathlib.Core.Bool.{Bool}
 use mathlib.Core.List.{List}
 use Rattle.basics.specs.Choice.{same}
 use Rattle.job.specs.declared.Kind.{Kind}
+use Rattle.job.specs.declared.Heading.{Heading}
 use Rattle.job.specs.Kind.{kind-of, kind-found}
 use Rattle.job.specs.Stream.{kind, operations, schedule-length, process, action, value, scheduled}
 
@@ -35,3 +36,7 @@ job-of s =
       steps = schedule-length s;
       entry = scheduled s;
     }
+
+-- what a job's run and its report are told of its header
+abbrev pub heading-of : Job → Heading
+heading-of j = record { object = j .object; count = j .count; steps = j .steps }

@@ -2,11 +2,12 @@
 use block::Checked;
 use memory::word_at;
 ghost use mathlib.Core.Path.{_≡_};
-ghost use Prim.Native.Nat.{_+_, _≤_, _<_};
+ghost use Prim.Native.Nat.{_+_, _*_, _≤_, _<_};
 ghost use lib.ListN.{length};
+ghost use Rattle.job.specs.Limits.{field};
 ghost use Rattle.job.specs.Kind.{kind-of};
-ghost use Rattle.job.specs.Job.{job-of};
-ghost use Rattle.job.specs.Stream.{operations, schedule-length, stream-length, record-at};
+ghost use Rattle.job.specs.Job.{job-of, heading-of};
+ghost use Rattle.job.specs.Stream.{operations, schedule-length, stream-length, record-at, action};
 ghost use Rattle.job.specs.Refusals.{first-met, outside, exact-count, bad-record, bad-records, bad-schedule, bad-padding, header-conditions, list-conditions};
 
 // An operation's number; operations count from 1, and 0 is none.
@@ -28,6 +29,42 @@ pub enum Kind {
 enum Lookup {
     Found(Kind),
     Missing,
+}
+
+// The limits of a profile: most processes P, operations N and steps S of a job, most blocks of its file, and the least length of the
+// report memory.
+pub struct Limits {
+    pub processes: u16,
+    pub operations: u16,
+    pub steps: u16,
+    pub blocks: usize,
+    pub report: usize,
+}
+
+impl Limits {
+    // Document 01's figures, the field's. No profile has more processes, operations or steps: the places, rows and cells of a run are as
+    // many.
+    pub const PROCESSES: usize = 8;
+
+    pub const OPERATIONS: usize = 256;
+
+    pub const STEPS: usize = 16384;
+
+    const BLOCKS: usize = 35;
+
+    pub const REPORT: usize = 32768;
+
+    pub fn field() -> Limits
+        ensures { λ r. ⌜ r ≡ field ⌝ }
+    {
+        Limits {
+            processes: Limits::PROCESSES as u16,
+            operations: Limits::OPERATIONS as u16,
+            steps: Limits::STEPS as u16,
+            blocks: Limits::BLOCKS,
+            report: Limits::REPORT,
+        }
+    }
 }
 
 // What a call answers: a number of document 01's table, 0 where it is accepted, and a length.
@@ -94,6 +131,75 @@ pub fn schedule_length(s: &[u8]) -> u16
     ensures { λ r. ⌜ r ≡ schedule-length (now (s .entry)) ⌝ }
 {
     word_at(s, 4)
+}
+
+// What a stream's header says of its job: read once, and passed on.
+pub struct Heading {
+    pub object: Kind,
+    pub count: u16,
+    pub steps: u16,
+}
+
+pub fn heading_of(s: &[u8]) -> Heading
+    requires { ⌜ 6 ≤ length (now s) ⌝ }
+    ensures { λ r. ⌜ r ≡ heading-of (job-of (now (s .entry))) ⌝ }
+{
+    let object = object_of(s);
+    Heading {
+        object,
+        count: operations(s),
+        steps: schedule_length(s),
+    }
+}
+
+// Where the record of an operation stands.
+fn record_at(o: Operation) -> usize
+    ensures { λ r. ⌜ r ≡ record-at (o .0) ⌝ }
+{
+    2 + 4 * (o.0 as usize)
+}
+
+// The process that does an operation.
+pub fn owner(s: &[u8], o: Operation) -> Process
+    requires { ⌜ record-at (o .0) + 3 < length (now s) ⌝ }
+    ensures { λ r. ⌜ r .0 ≡ job-of (now (s .entry)) .owner (o .0) ⌝ }
+{
+    let place = record_at(o);
+    Process(s[place])
+}
+
+// What an operation does: 1 put, 2 take.
+fn action(s: &[u8], o: Operation) -> u8
+    requires { ⌜ record-at (o .0) + 3 < length (now s) ⌝ }
+    ensures { λ r. ⌜ r ≡ action (now (s .entry)) (o .0) ⌝ }
+{
+    let place = record_at(o);
+    s[place + 1]
+}
+
+// Is an operation a put?
+pub fn is_put(s: &[u8], o: Operation) -> bool
+    requires { ⌜ record-at (o .0) + 3 < length (now s) ⌝ }
+    ensures { λ r. ⌜ r ≡ job-of (now (s .entry)) .is-put (o .0) ⌝ }
+{
+    action(s, o) == 1
+}
+
+// The value field of an operation.
+pub fn value(s: &[u8], o: Operation) -> u16
+    requires { ⌜ record-at (o .0) + 3 < length (now s) ⌝ }
+    ensures { λ r. ⌜ r ≡ job-of (now (s .entry)) .field (o .0) ⌝ }
+{
+    let place = record_at(o);
+    word_at(s, place + 2)
+}
+
+// The process that the schedule names for a step, in a stream of so many operations.
+pub fn scheduled(s: &[u8], count: u16, k: Step) -> Process
+    requires { ⌜ (count ≡ operations (now s)) × (5 + 4 * count + k .0 < length (now s)) ⌝ }
+    ensures { λ r. ⌜ r .0 ≡ job-of (now (s .entry)) .entry (k .0) ⌝ }
+{
+    Process(s[5 + 4 * (count as usize) + k.0 as usize])
 }
 
 // The length of the stream itself, without padding.

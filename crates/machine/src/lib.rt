@@ -1,6 +1,7 @@
 // The words of a run that code and definitions share: rows, accesses, places and what a step was.
 
 use job::Operation;
+use job::Step;
 
 // Where an operation stands: at one of the nineteen rows of the two listings, or ended, with done, with item n, with item t,
 // or with empty.
@@ -86,4 +87,12 @@ pub enum Event {
     Late(u16),
     // R3 on an item
     Raised(u16),
+}
+
+// What a run leaves beside the lent memory: the object's cells, and a step behind which every step of the schedule is idle.
+pub struct Finish {
+    pub head: u16,
+    pub tail: u16,
+    pub top: u16,
+    pub reach: Step,
 }

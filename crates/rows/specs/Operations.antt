@@ -1,0 +1,40 @@
+-- The row of an operation: six steps or items that a run keeps of it, a column for each. Two cells of a row are free.
+use Prim.Native.Nat.{ℕ}
+use mathlib.Core.List.{List}
+use Rattle.basics.specs.Choice.{pick, same}
+use Rattle.basics.specs.Maps.{at, upd}
+use Rattle.rows.specs.Rows.{column}
+
+pub data Column : Type 0 where
+  -- an operation's first step
+  First : Column
+  -- its last step
+  Last : Column
+  -- its last T1 or R1
+  Start : Column
+  -- its changing Q3 or P3
+  Link : Column
+  -- the item of its T5 or R3
+  Taken : Column
+  -- where the line of its item's takers stands; an item is a put's operation number
+  Stands : Column
+
+-- the cell of each column
+abbrev pub number : Column → ℕ
+number First = 0
+number Last = 1
+number Start = 2
+number Link = 3
+number Taken = 4
+number Stands = 5
+
+-- what some rows hold: a map for each column
+abbrev pub Cells : Type 0
+Cells = Column → ℕ → ℕ
+
+abbrev pub cells : List ℕ → Cells
+cells l f = column (number f) (at l)
+
+-- the cells after a store in the row of operation `o`
+unfoldable pub stored : Column → ℕ → ℕ → Cells → Cells
+stored f o v c g = pick (same (number g) (number f)) (upd (c g) o v) (c g)

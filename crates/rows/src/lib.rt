@@ -1,0 +1,43 @@
+// Rows of cells in one lent list: a row for each operation, or for each node. What a column holds is said where it is used.
+ghost use mathlib.Core.Path.{_≡_};
+ghost use Prim.Native.Nat.{_<_};
+ghost use Rattle.basics.specs.Maps.{at, upd};
+ghost use Rattle.rows.specs.Rows.{row-size, place, column, HasRows};
+
+// cells in a row
+pub const ROW: usize = 8;
+
+// The columns of an operation's row: its first step, its last step, its last T1 or R1, its changing Q3 or P3, the item of its T5 or R3,
+// and where the line of its item's takers stands.
+pub const FIRST: usize = 0;
+
+pub const LAST: usize = 1;
+
+pub const START: usize = 2;
+
+pub const LINK: usize = 3;
+
+pub const TAKEN: usize = 4;
+
+pub const STANDS: usize = 5;
+
+// The columns of a node's row: its next and its mark.
+pub const NEXT: usize = 0;
+
+pub const MARK: usize = 1;
+
+// Cell `f` of row `i`.
+pub fn cell(rows: &[u16], i: u16, f: usize) -> u16
+    requires { ⌜ (f < row-size) × HasRows i (now rows) ⌝ }
+    ensures { λ r. ⌜ r ≡ column f (at (now (rows .entry))) i ⌝ }
+{
+    rows[ROW * (i as usize) + f]
+}
+
+// Stores a value in cell `f` of row `i`.
+pub fn store(rows: &mut [u16], i: u16, f: usize, v: u16)
+    requires { ⌜ (f < row-size) × HasRows i (now rows) ⌝ }
+    ensures { λ _. ⌜ at (now (rows .exit)) ≡ upd (at (now (rows .entry))) (place i f) v ⌝ }
+{
+    rows[ROW * (i as usize) + f] = v;
+}
