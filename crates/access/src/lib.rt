@@ -3,12 +3,15 @@
 use job::Operation;
 use machine::Event;
 use machine::Outcome;
+use rows::MARK;
+use rows::NEXT;
+use rows::cell;
+use rows::store;
 ghost use mathlib.Core.Path.{_≡_};
-ghost use mathlib.Core.List.{List};
-ghost use Prim.Native.Nat.{ℕ, _<_};
-ghost use lib.ListN.{length};
+ghost use Prim.Native.Nat.{ℕ};
 ghost use Rattle.machine.specs.declared.Access.the-variants.{ReadHead, ReadTail, ReadNextOfH, ReadNextOfT, Link, TailToOwn, TailToN, HeadToN, ReadTopToPut, ReadTopToTake, ReadMark, Push, RaiseMark, TopToNext};
 ghost use Rattle.basics.specs.Choice.{same};
+ghost use Rattle.rows.specs.Rows.{HasRows};
 ghost use Rattle.machine.specs.Memory.{set-from-to, yes-if};
 ghost use Rattle.access.specs.View.{Does, Does-alone, answered};
 
@@ -96,12 +99,11 @@ pub fn read_tail(mut c: Scalars) -> Accessed
 }
 
 // "T3 read h's next as n: if h = t and n is none, end, empty; if h = t, T4; else T5."
-pub fn read_next_of_h(mut c: Scalars, next: &[u16]) -> Accessed
-    requires { ⌜ c .h < length (now next) ⌝ }
-    ensures { λ d. ⌜ ((own : ℕ) (mark : List ℕ) → Does ReadNextOfH own c (now (next .entry)) mark d (now (next .entry)) mark) ⌝ }
+pub fn read_next_of_h(mut c: Scalars, nodes: &[u16]) -> Accessed
+    requires { ⌜ HasRows (c .h) (now nodes) ⌝ }
+    ensures { λ d. ⌜ ((own : ℕ) → Does ReadNextOfH own c (now (nodes .entry)) d (now (nodes .entry))) ⌝ }
 {
-    let h = c.h as usize;
-    c.n = next[h];
+    c.n = cell(nodes, c.h, NEXT);
     if c.h != c.t {
         return answer(c, Outcome::Yes, Event::Quiet);
     }
@@ -112,24 +114,22 @@ pub fn read_next_of_h(mut c: Scalars, next: &[u16]) -> Accessed
 }
 
 // "Q2 read t's next as n: none, go to Q3; else Q5."
-pub fn read_next_of_t(mut c: Scalars, next: &[u16]) -> Accessed
-    requires { ⌜ c .t < length (now next) ⌝ }
-    ensures { λ d. ⌜ ((own : ℕ) (mark : List ℕ) → Does ReadNextOfT own c (now (next .entry)) mark d (now (next .entry)) mark) ⌝ }
+pub fn read_next_of_t(mut c: Scalars, nodes: &[u16]) -> Accessed
+    requires { ⌜ HasRows (c .t) (now nodes) ⌝ }
+    ensures { λ d. ⌜ ((own : ℕ) → Does ReadNextOfT own c (now (nodes .entry)) d (now (nodes .entry))) ⌝ }
 {
-    let t = c.t as usize;
-    c.n = next[t];
+    c.n = cell(nodes, c.t, NEXT);
     let outcome = yes_if_same(c.n, NONE);
     answer(c, outcome, Event::Quiet)
 }
 
 // "Q3 set t's next from none to the own node: changed, Q4; else Q1."
-pub fn link_own(own: Operation, c: Scalars, next: &mut [u16]) -> Accessed
-    requires { ⌜ c .t < length (now next) ⌝ }
-    ensures { λ d. ⌜ ((mark : List ℕ) → Does Link (own .0) c (now (next .entry)) mark d (now (next .exit)) mark) ⌝ }
+pub fn link_own(own: Operation, c: Scalars, nodes: &mut [u16]) -> Accessed
+    requires { ⌜ HasRows (c .t) (now nodes) ⌝ }
+    ensures { λ d. ⌜ Does Link (own .0) c (now (nodes .entry)) d (now (nodes .exit)) ⌝ }
 {
-    let t = c.t as usize;
-    if next[t] == NONE {
-        next[t] = own.0;
+    if cell(nodes, c.t, NEXT) == NONE {
+        store(nodes, c.t, NEXT, own.0);
         return answer(c, Outcome::Yes, Event::Linked);
     }
     answer(c, Outcome::No, Event::Quiet)
@@ -185,46 +185,42 @@ pub fn read_top_to_take(mut c: Scalars) -> Accessed
 }
 
 // "P2 read t's mark: clear, P3; else P4." "R2 read t's mark: clear, R3; else R5."
-pub fn read_mark(c: Scalars, mark: &[u16]) -> Accessed
-    requires { ⌜ c .t < length (now mark) ⌝ }
-    ensures { λ d. ⌜ ((own : ℕ) (next : List ℕ) → Does ReadMark own c next (now (mark .entry)) d next (now (mark .entry))) ⌝ }
+pub fn read_mark(c: Scalars, nodes: &[u16]) -> Accessed
+    requires { ⌜ HasRows (c .t) (now nodes) ⌝ }
+    ensures { λ d. ⌜ ((own : ℕ) → Does ReadMark own c (now (nodes .entry)) d (now (nodes .entry))) ⌝ }
 {
-    let t = c.t as usize;
-    let outcome = yes_if_same(mark[t], CLEAR);
+    let outcome = yes_if_same(cell(nodes, c.t, MARK), CLEAR);
     answer(c, outcome, Event::Quiet)
 }
 
 // "P3 set Top from t to the own node, whose next becomes t: changed, end, done; else P1."
-pub fn push(own: Operation, mut c: Scalars, next: &mut [u16]) -> Accessed
-    requires { ⌜ own .0 < length (now next) ⌝ }
-    ensures { λ d. ⌜ ((mark : List ℕ) → Does Push (own .0) c (now (next .entry)) mark d (now (next .exit)) mark) ⌝ }
+pub fn push(own: Operation, mut c: Scalars, nodes: &mut [u16]) -> Accessed
+    requires { ⌜ HasRows (own .0) (now nodes) ⌝ }
+    ensures { λ d. ⌜ Does Push (own .0) c (now (nodes .entry)) d (now (nodes .exit)) ⌝ }
 {
     if c.top == c.t {
         c.top = own.0;
-        let node = own.0 as usize;
-        next[node] = c.t;
+        store(nodes, own.0, NEXT, c.t);
         return answer(c, Outcome::Yes, Event::Linked);
     }
     answer(c, Outcome::No, Event::Quiet)
 }
 
 // "R3 raise t's mark."
-pub fn raise_mark(c: Scalars, mark: &mut [u16]) -> Accessed
-    requires { ⌜ c .t < length (now mark) ⌝ }
-    ensures { λ d. ⌜ ((own : ℕ) (next : List ℕ) → Does RaiseMark own c next (now (mark .entry)) d next (now (mark .exit))) ⌝ }
+pub fn raise_mark(c: Scalars, nodes: &mut [u16]) -> Accessed
+    requires { ⌜ HasRows (c .t) (now nodes) ⌝ }
+    ensures { λ d. ⌜ ((own : ℕ) → Does RaiseMark own c (now (nodes .entry)) d (now (nodes .exit))) ⌝ }
 {
-    let raised = c.t as usize;
-    mark[raised] = RAISED;
+    store(nodes, c.t, MARK, RAISED);
     answer(c, Outcome::Yes, Event::Raised(c.t))
 }
 
 // "P4", "R4" and "R5 set Top from t to t's next"
-pub fn top_to_next(mut c: Scalars, next: &[u16]) -> Accessed
-    requires { ⌜ c .t < length (now next) ⌝ }
-    ensures { λ d. ⌜ ((own : ℕ) (mark : List ℕ) → Does TopToNext own c (now (next .entry)) mark d (now (next .entry)) mark) ⌝ }
+pub fn top_to_next(mut c: Scalars, nodes: &[u16]) -> Accessed
+    requires { ⌜ HasRows (c .t) (now nodes) ⌝ }
+    ensures { λ d. ⌜ ((own : ℕ) → Does TopToNext own c (now (nodes .entry)) d (now (nodes .entry))) ⌝ }
 {
-    let t = c.t as usize;
     let outcome = yes_if_same(c.top, c.t);
-    c.top = set_from_to(c.top, c.t, next[t]);
+    c.top = set_from_to(c.top, c.t, cell(nodes, c.t, NEXT));
     answer(c, outcome, Event::Quiet)
 }

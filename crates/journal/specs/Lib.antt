@@ -1,5 +1,3 @@
--- What the journal's cells hold after a step, by the step's event.
-pub mod Cells
-pub mod Holds
-pub mod Journal
+-- What a step stores in the journal, and what the journal of a run holds.
 pub mod Stored
+pub mod Journal

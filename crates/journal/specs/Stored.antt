@@ -1,27 +1,45 @@
--- What the stores of one step leave: step k, by operation o, with event e, at which it ended or not.
+-- What one step stores in the row of its operation, and of the item that it takes. It is how the code keeps the searches of the
+-- definitions: `Kept` in proofs/ says that it does.
 use mathlib.Core.Path.{_≡_}
-use Prim.Native.Nat.{ℕ, _<_}
+use Prim.Native.Nat.{ℕ, max}
 use mathlib.Core.Bool.{Bool}
 use mathlib.Core.List.{List}
-use lib.ListN.{length}
-use Rattle.basics.specs.Choice.{pick}
+use Rattle.basics.specs.Choice.{pick, same}
 use Rattle.basics.specs.Maps.{at, upd}
+use Rattle.rows.specs.Rows.{HasRows}
+use Rattle.rows.specs.Operations.{Cells, cells, stored}
+use Rattle.rows.specs.Operations.Column.{First, Last, Start, Link, Taken, Stands}
+use Rattle.machine.specs.Journal.{item-of}
 use Rattle.machine.specs.declared.Event.{Event}
-use Rattle.journal.specs.Cells.{cells, noted, earlier}
+use Rattle.machine.specs.declared.Event.the-variants.{Quiet, Round, Linked, Moved, Late, Raised}
 
--- the operation's first step if it had none, and who made the step
-pub record Entered (o k : ℕ) (first by first′ by′ : List ℕ) : Type 0 where
-  pub first-stored : at first′ ≡ upd (at first) o (earlier (at first o) k)
+-- a step that is kept once it is there
+unfoldable pub earlier : ℕ → ℕ → ℕ
+earlier old k = pick (same old 0) k old
+
+-- the cells after step k by operation o: its first step, if it had none
+unfoldable pub entered : ℕ → ℕ → Cells → Cells
+entered o k c = stored First o (earlier (c First o) k) c
+
+-- the step's event
+unfoldable pub noted : Event → ℕ → ℕ → Cells → Cells
+noted Quiet o k c = c
+noted Round o k c = stored Start o k c
+noted Linked o k c = stored Link o k c
+noted (Moved n) o k c = stored Stands n (earlier (c Stands n) k) (stored Taken o n c)
+noted (Late n) o k c = stored Taken o n c
+noted (Raised t) o k c = stored Stands t (max (c Stands t) (c Start o)) (stored Taken o t c)
+
+-- the operation's last step, if it ended there
+unfoldable pub closed : Bool → ℕ → ℕ → Cells → Cells
+closed ends o k c = stored Last o (pick ends k (c Last o)) c
+
+-- all that one step stores: also who made it
+pub record Stored (e : Event) (ends : Bool) (o k : ℕ) (ops by ops′ by′ : List ℕ) : Type 0 where
+  pub cells-stored : cells ops′ ≡ closed ends o k (noted e o k (entered o k (cells ops)))
   pub by-stored : at by′ ≡ upd (at by) k o
 
--- the lists have the cells of the operation and of the step
-pub record Spacious (o k : ℕ) (first last by : List ℕ) : Type 0 where
-  pub in-first : o < length first
-  pub in-last : o < length last
-  pub in-by : k < length by
-
--- all that one step stores: also the operation's last step if it ended, and the step's event
-pub record Stored (e : Event) (ends : Bool) (o k : ℕ) (first last start link taken stands by first′ last′ start′ link′ taken′ stands′ by′ : List ℕ) : Type 0 where
-  pub entered : Entered o k first by first′ by′
-  pub last-stored : at last′ ≡ pick ends (upd (at last) o k) (at last)
-  pub event-stored : cells start′ link′ taken′ stands′ ≡ noted e o k (cells start link taken stands)
+-- the rows of an operation and of an event's item are there
+pub record HasCells (e : Event) (o : ℕ) (ops : List ℕ) : Type 0 where
+  pub own-row : HasRows o ops
+  pub item-row : HasRows (item-of e) ops

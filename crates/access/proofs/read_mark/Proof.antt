@@ -2,18 +2,21 @@
 use mathlib.Core.Path.{refl}
 use Rattle.machine.specs.Access.{access, have-set}
 use Rattle.machine.specs.Notes.{event-of}
-use Rattle.access.specs.View.{memory-of, reached-from, reached-by}
-use Rattle.basics.specs.Maps.{at}
+use Rattle.access.specs.Nodes.{memory-of}
+use Rattle.access.specs.View.{reached-from, reached-by}
 use borrow.Author.Needs.{needs}
 use Rattle.access.proofs.read_mark.Statement.{statement}
 use Rattle.access.proofs.read_mark.Tie as tie
 
 returns : tie.Need-returns
-unfolding access have-set reached-from reached-by memory-of event-of at
-returns c = λ own next. rw (c .answer .ensures, c .before .yes-if-same .ensures) (record { reaches = refl; tells = refl })
+unfolding access have-set reached-from reached-by memory-of event-of
+returns c =
+    λ own.
+    rw (c .answer .ensures, c .before .yes-if-same .ensures, c .before .before .cell .ensures)
+    (record { reaches = refl; tells = refl })
 
 pub read-mark-spec : {M : Type 1} → statement M
 read-mark-spec =
     tie.close
     (tie.spec
-    (λ c. search needs) (λ c. search needs) (λ c. search needs) (λ c κs. search needs) (λ c κs. search needs) returns)
+    (λ c κs. search needs) (λ c κs. search needs) (λ c κs. search needs) returns)

@@ -2,14 +2,15 @@
 use mathlib.Core.Path.{refl}
 use Rattle.machine.specs.Access.{access, have-read}
 use Rattle.machine.specs.Notes.{event-of}
-use Rattle.access.specs.View.{memory-of, reached-from, reached-by}
+use Rattle.access.specs.Nodes.{memory-of}
+use Rattle.access.specs.View.{reached-from, reached-by}
 use borrow.Author.Needs.{needs}
 use Rattle.access.proofs.read_tail.Statement.{statement}
 use Rattle.access.proofs.read_tail.Tie as tie
 
 returns : tie.Need-returns
 unfolding access have-read reached-from reached-by memory-of event-of
-returns c = λ own next mark. rw (c .answer .ensures) (record { reaches = refl; tells = refl })
+returns c = λ own nodes. rw (c .answer .ensures) (record { reaches = refl; tells = refl })
 
 pub read-tail-spec : {M : Type 1} → statement M
 read-tail-spec =

@@ -2,7 +2,8 @@
 use mathlib.Core.Path.{refl}
 use Rattle.machine.specs.Access.{access, have-set}
 use Rattle.machine.specs.Notes.{event-of}
-use Rattle.access.specs.View.{memory-of, reached-from, reached-by}
+use Rattle.access.specs.Nodes.{memory-of}
+use Rattle.access.specs.View.{reached-from, reached-by}
 use Rattle.machine.specs.Memory.{with-tail}
 use borrow.Author.Needs.{needs}
 use Rattle.access.proofs.tail_to_n.Statement.{statement}
@@ -11,7 +12,7 @@ use Rattle.access.proofs.tail_to_n.Tie as tie
 returns : tie.Need-returns
 unfolding access have-set reached-from reached-by memory-of event-of with-tail
 returns c =
-    λ own next mark.
+    λ own nodes.
     rw (c .answer .ensures, c .before .set-from-to .ensures, c .before .before .yes-if-same .ensures)
     (record { reaches = refl; tells = refl })
 
