@@ -26,11 +26,10 @@ use machine::Place;
 use machine::Row;
 ghost use mathlib.Core.Path.{_≡_};
 ghost use mathlib.Core.Bool.{false};
-ghost use lib.ListN.{length};
 ghost use Rattle.machine.specs.Table.{successor, ended};
 ghost use Rattle.access.specs.View.{Does};
-ghost use Rattle.journal.specs.Cells as Journal;
-ghost use Rattle.journal.specs.Cells.{cells, HasCells};
+ghost use Rattle.rows.specs.Operations.{cells};
+ghost use Rattle.journal.specs.Stored.{noted, HasCells};
 ghost use Rattle.step.specs.Promise.{Inside, heard, IsStep, event-at};
 
 // What a step left: the place's row and registers, and the three cells of shared memory.
@@ -45,55 +44,36 @@ pub struct Stepped {
 }
 
 // The same access, noted: what it was for the record, at step k of operation `own`.
-fn logged(
-    d: Accessed,
-    own: Operation,
-    k: Step,
-    start: &mut [u16],
-    link: &mut [u16],
-    taken: &mut [u16],
-    stands: &mut [u16],
-) -> Accessed
-    requires { ⌜ HasCells (d .event) (own .0) (length (now start)) (length (now link)) (length (now taken)) (length (now stands)) ⌝ }
-    ensures { λ r. ⌜ (r ≡ d) × (cells (now (start .exit)) (now (link .exit)) (now (taken .exit)) (now (stands .exit)) ≡ Journal.noted (d .event) (own .0) (k .0) (cells (now (start .entry)) (now (link .entry)) (now (taken .entry)) (now (stands .entry)))) ⌝ }
+fn logged(d: Accessed, own: Operation, k: Step, ops: &mut [u16]) -> Accessed
+    requires { ⌜ HasCells (d .event) (own .0) (now ops) ⌝ }
+    ensures { λ r. ⌜ (r ≡ d) × (cells (now (ops .exit)) ≡ noted (d .event) (own .0) (k .0) (cells (now (ops .entry)))) ⌝ }
 {
     let event = d.event;
-    note(event, own, k, start, link, taken, stands);
+    note(event, own, k, ops);
     d
 }
 
 // The access `a` of operation `own`, at step k. It is noted in the arm that makes it, where the compiled code knows what it was.
-fn perform(
-    a: Access,
-    own: Operation,
-    k: Step,
-    c: Scalars,
-    next: &mut [u16],
-    mark: &mut [u16],
-    start: &mut [u16],
-    link: &mut [u16],
-    taken: &mut [u16],
-    stands: &mut [u16],
-) -> Accessed
-    requires { ⌜ Inside (own .0) (c .h) (c .t) (now next) (now mark) × HasCells (heard a (own .0) c (now next) (now mark)) (own .0) (length (now start)) (length (now link)) (length (now taken)) (length (now stands)) ⌝ }
-    ensures { λ d. ⌜ Does a (own .0) c (now (next .entry)) (now (mark .entry)) d (now (next .exit)) (now (mark .exit)) ⌝ }
-    ensures { λ d. ⌜ cells (now (start .exit)) (now (link .exit)) (now (taken .exit)) (now (stands .exit)) ≡ Journal.noted (heard a (own .0) c (now (next .entry)) (now (mark .entry))) (own .0) (k .0) (cells (now (start .entry)) (now (link .entry)) (now (taken .entry)) (now (stands .entry))) ⌝ }
+fn perform(a: Access, own: Operation, k: Step, c: Scalars, nodes: &mut [u16], ops: &mut [u16]) -> Accessed
+    requires { ⌜ Inside (own .0) (c .h) (c .t) (now nodes) × HasCells (heard a (own .0) c (now nodes)) (own .0) (now ops) ⌝ }
+    ensures { λ d. ⌜ Does a (own .0) c (now (nodes .entry)) d (now (nodes .exit)) ⌝ }
+    ensures { λ d. ⌜ cells (now (ops .exit)) ≡ noted (heard a (own .0) c (now (nodes .entry))) (own .0) (k .0) (cells (now (ops .entry))) ⌝ }
 {
     match a {
-        Access::ReadHead => logged(read_head(c), own, k, start, link, taken, stands),
-        Access::ReadTail => logged(read_tail(c), own, k, start, link, taken, stands),
-        Access::ReadNextOfH => logged(read_next_of_h(c, next), own, k, start, link, taken, stands),
-        Access::ReadNextOfT => logged(read_next_of_t(c, next), own, k, start, link, taken, stands),
-        Access::Link => logged(link_own(own, c, next), own, k, start, link, taken, stands),
-        Access::TailToOwn => logged(tail_to_own(own, c), own, k, start, link, taken, stands),
-        Access::TailToN => logged(tail_to_n(c), own, k, start, link, taken, stands),
-        Access::HeadToN => logged(head_to_n(c), own, k, start, link, taken, stands),
-        Access::ReadTopToPut => logged(read_top_to_put(c), own, k, start, link, taken, stands),
-        Access::ReadTopToTake => logged(read_top_to_take(c), own, k, start, link, taken, stands),
-        Access::ReadMark => logged(read_mark(c, mark), own, k, start, link, taken, stands),
-        Access::Push => logged(push(own, c, next), own, k, start, link, taken, stands),
-        Access::RaiseMark => logged(raise_mark(c, mark), own, k, start, link, taken, stands),
-        Access::TopToNext => logged(top_to_next(c, next), own, k, start, link, taken, stands),
+        Access::ReadHead => logged(read_head(c), own, k, ops),
+        Access::ReadTail => logged(read_tail(c), own, k, ops),
+        Access::ReadNextOfH => logged(read_next_of_h(c, nodes), own, k, ops),
+        Access::ReadNextOfT => logged(read_next_of_t(c, nodes), own, k, ops),
+        Access::Link => logged(link_own(own, c, nodes), own, k, ops),
+        Access::TailToOwn => logged(tail_to_own(own, c), own, k, ops),
+        Access::TailToN => logged(tail_to_n(c), own, k, ops),
+        Access::HeadToN => logged(head_to_n(c), own, k, ops),
+        Access::ReadTopToPut => logged(read_top_to_put(c), own, k, ops),
+        Access::ReadTopToTake => logged(read_top_to_take(c), own, k, ops),
+        Access::ReadMark => logged(read_mark(c, nodes), own, k, ops),
+        Access::Push => logged(push(own, c, nodes), own, k, ops),
+        Access::RaiseMark => logged(raise_mark(c, nodes), own, k, ops),
+        Access::TopToNext => logged(top_to_next(c, nodes), own, k, ops),
     }
 }
 
@@ -110,25 +90,21 @@ fn successor(e: Entry, outcome: Outcome) -> Row
     }
 }
 
-// Step k: that of place `p`, whose operation has not ended. `next` and `mark` are the nodes' nexts and marks; the other lists are the
-// part of the journal where the step's event is noted.
+// Step k: that of place `p`, whose operation has not ended. The nodes' rows are shared memory; the operations' rows are the journal, where
+// the step's event is noted.
 pub fn step(
     p: Place,
     k: Step,
     head: u16,
     tail: u16,
     top: u16,
-    next: &mut [u16],
-    mark: &mut [u16],
-    start: &mut [u16],
-    link: &mut [u16],
-    taken: &mut [u16],
-    stands: &mut [u16],
+    nodes: &mut [u16],
+    ops: &mut [u16],
 ) -> Stepped
-    requires { ⌜ (ended (p .row) ≡ false) × Inside (p .operation .0) (p .h) (p .t) (now next) (now mark) ⌝ }
-    requires { ⌜ HasCells (event-at p head tail top (now next) (now mark)) (p .operation .0) (length (now start)) (length (now link)) (length (now taken)) (length (now stands)) ⌝ }
-    ensures { λ r. ⌜ IsStep p head tail top (now (next .entry)) (now (mark .entry)) r (now (next .exit)) (now (mark .exit)) ⌝ }
-    ensures { λ r. ⌜ cells (now (start .exit)) (now (link .exit)) (now (taken .exit)) (now (stands .exit)) ≡ Journal.noted (event-at p head tail top (now (next .entry)) (now (mark .entry))) (p .operation .0) (k .0) (cells (now (start .entry)) (now (link .entry)) (now (taken .entry)) (now (stands .entry))) ⌝ }
+    requires { ⌜ (ended (p .row) ≡ false) × Inside (p .operation .0) (p .h) (p .t) (now nodes) ⌝ }
+    requires { ⌜ HasCells (event-at p head tail top (now nodes)) (p .operation .0) (now ops) ⌝ }
+    ensures { λ r. ⌜ IsStep p head tail top (now (nodes .entry)) r (now (nodes .exit)) ⌝ }
+    ensures { λ r. ⌜ cells (now (ops .exit)) ≡ noted (event-at p head tail top (now (nodes .entry))) (p .operation .0) (k .0) (cells (now (ops .entry))) ⌝ }
 {
     let own = p.operation;
     let here = p.row;
@@ -142,7 +118,7 @@ pub fn step(
         tail,
         top,
     };
-    let d = perform(a, own, k, c, next, mark, start, link, taken, stands);
+    let d = perform(a, own, k, c, nodes, ops);
     let outcome = d.outcome;
     let row = successor(e, outcome);
     Stepped {

@@ -12,7 +12,8 @@ use Rattle.machine.specs.Run.{reach, registers, reached, row-after}
 use Rattle.machine.specs.Notes.{acted}
 use Rattle.access.specs.declared.Scalars.{Scalars}
 use Rattle.access.specs.declared.Accessed.{Accessed}
-use Rattle.access.specs.View.{memory-of, reached-from, reached-by, Does}
+use Rattle.access.specs.Nodes.{memory-of}
+use Rattle.access.specs.View.{reached-from, reached-by, Does}
 use Rattle.step.specs.declared.Stepped.{Stepped}
 use Rattle.step.proofs.Arms.{room-as, noted-as}
 use Rattle.step.specs.Promise.{heard, IsStep, event-at}
@@ -31,16 +32,16 @@ stepped d w =
 
 -- an entry that was looked up, its access done, and the row after it
 access-and-successor-are-the-step :
-    {p : Place} {head tail top : ℕ} {next mark next' mark' : List ℕ} {e : Entry} {d : Accessed} {w : Row} →
+    {p : Place} {head tail top : ℕ} {nodes nodes' : List ℕ} {e : Entry} {d : Accessed} {w : Row} →
     e ≡ row-of (p .row) →
-    Does (e .access) (p .operation .0) (cells-of p head tail top) next mark d next' mark' →
+    Does (e .access) (p .operation .0) (cells-of p head tail top) nodes d nodes' →
     w ≡ successor e (d .outcome) →
-    IsStep p head tail top next mark (stepped d w) next' mark'
+    IsStep p head tail top nodes (stepped d w) nodes'
 unfolding reached-from reached-by reached reach registers row-after
-access-and-successor-are-the-step {p} {head} {tail} {top} {next} {mark} {next'} {mark'} {e} {d} looked did after =
-    let there : reached-by d next' mark' ≡ reached (memory-of head tail top next mark) p =
+access-and-successor-are-the-step {p} {head} {tail} {top} {nodes} {nodes'} {e} {d} looked did after =
+    let there : reached-by d nodes' ≡ reached (memory-of head tail top nodes) p =
     did .reaches
-    ∙ ap (λ (x : Entry). reached-from (x .access) (p .operation .0) (cells-of p head tail top) next mark) looked in
+    ∙ ap (λ (x : Entry). reached-from (x .access) (p .operation .0) (cells-of p head tail top) nodes) looked in
     record {
       memory = ap (λ (x : Reached). x .memory) there;
       registers = ap (λ (x : Reached). x .registers) there;
@@ -51,26 +52,25 @@ access-and-successor-are-the-step {p} {head} {tail} {top} {next} {mark} {next'} 
     }
 
 -- the event of that access is the step's
-event-is : (p : Place) (head tail top : ℕ) (next mark : List ℕ) {e : Entry} → e ≡ row-of (p .row) → heard (e .access) (p .operation .0) (cells-of p head tail top) next mark ≡ event-at p head tail top next mark
+event-is : (p : Place) (head tail top : ℕ) (nodes : List ℕ) {e : Entry} → e ≡ row-of (p .row) → heard (e .access) (p .operation .0) (cells-of p head tail top) nodes ≡ event-at p head tail top nodes
 unfolding heard event-at acted reached-from reached reach registers
-event-is p head tail top next mark looked = ap (λ (x : Entry). heard (x .access) (p .operation .0) (cells-of p head tail top) next mark) looked
+event-is p head tail top nodes looked = ap (λ (x : Entry). heard (x .access) (p .operation .0) (cells-of p head tail top) nodes) looked
 
 perform-requires : tie.Need-perform-requires
 perform-requires c κs =
-    let start = c .before .before .before .before .before .before .before .before .before .before .before .before .before .before in
-    (start .pre .0 .1, room-as (event-is _ _ _ _ _ _ (c .before .before .before .before .before .before .row-of .ensures)) (start .pre .1))
+    let start = c .before .before .before .before .before .before in
+    (start .pre .0 .1, room-as (event-is _ _ _ _ _ (c .before .before .row-of .ensures)) (start .pre .1))
 
 returns : tie.Need-returns
 returns c =
-    let looked = c .before .before .before .before .before .before .before .before .before .before .before .before .before .before .before .before .before .before .before .before .row-of .ensures in
-    let did = c .before .before .before .before .before .before .before .before .before .before .before .before .before .perform .ensures in (
-      access-and-successor-are-the-step looked (did .0) (c .successor .ensures),
-      noted-as _ _ _ (event-is _ _ _ _ _ _ looked) (did .1),
+    let did = c .before .before .before .before .before in
+    let looked = did .before .before .before .row-of .ensures in (
+      access-and-successor-are-the-step looked (did .perform .ensures .0) (c .successor .ensures),
+      noted-as _ _ _ (event-is _ _ _ _ _ looked) (did .perform .ensures .1),
     )
 
 pub step-spec : {M : Type 1} → statement M
 step-spec =
     tie.close
     (tie.spec
-    (λ c κs. search needs) perform-requires (λ c κs. search needs) (λ c. search needs) (λ c. search needs)
-    (λ c. search needs) (λ c. search needs) (λ c. search needs) (λ c. search needs) returns)
+    (λ c κs. search needs) perform-requires (λ c κs. search needs) (λ c. search needs) (λ c. search needs) returns)
