@@ -1,23 +1,24 @@
 // The operation in a process's hand: where it begins, and which comes after it. Operations count from 1; N + 1 is none.
 ghost use mathlib.Core.Path.{_≡_};
-ghost use Prim.Native.Nat.{_+_, _*_, _<_, _≤_};
+ghost use Prim.Native.Nat.{_+_, _<_, _≤_};
 ghost use lib.ListN.{length};
-ghost use Rattle.job.specs.Stream.{operations};
+ghost use Rattle.job.specs.Stream.{«record-at»};
 ghost use Rattle.job.specs.Job.{«job-of»};
 ghost use Rattle.machine.specs.Run.{before, «operation-after»};
 use job::Kind;
 use job::Operation;
 use job::Process;
+use job::is_put;
+use job::owner;
 use machine::Place;
 use table::first_row;
 
 // A place before the first step of an operation of the stream's job.
 pub fn begin(stream: &[u8], object: Kind, o: Operation) -> Place
-    requires { ⌜ (4 * (o .0) + 3 < length (now stream)) × (object ≡ job-of (now stream) .object) ⌝ }
+    requires { ⌜ (record-at (o .0) + 3 < length (now stream)) × (object ≡ job-of (now stream) .object) ⌝ }
     ensures { λ r. ⌜ r ≡ before (job-of (now (stream .entry))) (o .0) ⌝ }
 {
-    let put = stream[4 * (o.0 as usize) + 3] == 1;
-    let row = first_row(object, put);
+    let row = first_row(object, is_put(stream, o));
     Place {
         operation: o,
         row,
@@ -29,12 +30,13 @@ pub fn begin(stream: &[u8], object: Kind, o: Operation) -> Place
 
 // The operation of a process that comes after operation o.
 pub fn next_operation(stream: &[u8], count: u16, p: Process, o: Operation) -> Operation
-    requires { ⌜ (count ≡ operations (now stream)) × (4 * count + 6 ≤ length (now stream)) × (count < 65535) × (o .0 ≤ count) ⌝ }
+    requires { ⌜ (count ≡ job-of (now stream) .count) × (record-at count + 3 < length (now stream)) × (count < 65535) × (o .0 ≤ count) ⌝ }
     ensures { λ r. ⌜ r .0 ≡ operation-after (job-of (now (stream .entry))) (p .0) (o .0) ⌝ }
 {
     let mut i = o.0 + 1;
     while i <= count {
-        if stream[4 * (i as usize) + 2] == p.0 {
+        let q = owner(stream, Operation(i));
+        if q.0 == p.0 {
             return Operation(i);
         }
         i += 1;

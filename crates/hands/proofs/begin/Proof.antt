@@ -1,26 +1,17 @@
--- `hands::begin` meets its contract: the action byte stands where the record has it. Assumes nothing.
-use Rattle.hands.proofs.Hands.{begins}
+-- `hands::begin` meets its contract. Assumes nothing.
+use mathlib.Core.Path.{_∙_}
+use Rattle.machine.specs.Table.{first-row}
+use Rattle.machine.specs.Run.{before}
 use borrow.Author.Needs.{needs}
 use Rattle.hands.proofs.begin.Statement.{statement}
 use Rattle.hands.proofs.begin.Tie as tie
 
-cast-put : tie.Need-cast-put
-cast-put c = search needs
-
-mul-put : tie.Need-mul-put
-mul-put c = search needs
-
-add-put : tie.Need-add-put
-add-put c = search needs
-
-shared-slice-read-put : tie.Need-shared-slice-read-put
-shared-slice-read-put c = search needs
-
-first-row-requires : tie.Need-first-row-requires
-first-row-requires c κs = search needs
-
 returns : tie.Need-returns
-returns c = begins _ _ _ _ (c .before .before .before .before .pre .1) (c .first-row .ensures)
+unfolding before
+returns c =
+    let of = c .before .before .before .pre .1 in
+    let row = c .first-row .ensures ∙ (λ i. first-row (of i) (c .before .is-put .ensures i)) in
+    λ i. record { operation = c .before .before .before .args .o; row = row i; h = 0; t = 0; n = 0 }
 
 pub begin-spec : {M : Type 1} → statement M
-begin-spec = tie.close (tie.spec cast-put mul-put add-put shared-slice-read-put first-row-requires returns)
+begin-spec = tie.close (tie.spec (λ c κs. search needs) (λ c κs. search needs) returns)
