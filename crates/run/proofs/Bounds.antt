@@ -1,27 +1,56 @@
--- What the code reads lies in its lent memory. Assumes nothing.
-use mathlib.Core.Path.{_≡_}
+-- What the code reads of a stream that is ready lies in it, and is what the job says. Assumes nothing.
+use mathlib.Core.Path.{_≡_, sym, ap, subst}
 use Prim.Native.Nat.{ℕ, suc, _+_, _-_, _*_, _≤_, _<_}
 use native.Mathlib.Omega.{arith}
 use mathlib.Core.List.{List}
 use lib.ListN.{length}
 use Rattle.basics.specs.Choice.{same}
-use Rattle.job.specs.declared.Kind.{Kind}
-use Rattle.job.specs.Stream.{operations}
+use Rattle.block.specs.Block.{payload-size}
+use Rattle.job.specs.declared.Heading.{Heading}
+use Rattle.job.specs.Limits.{field, most-stream}
+use Rattle.job.specs.Stream.{record-at}
 use Rattle.job.specs.Job.{job-of}
 use Rattle.machine.specs.Run.{operation-after}
 use Rattle.machine.proofs.Searches.{seek-to}
-use Rattle.run.specs.Promise.{Goes}
+use Rattle.run.specs.Promise.{Runnable}
 
--- the operation after one of the job's is one, or the next number
-next-to : (s : List ℕ) (p o : ℕ) → o ≤ operations s → operation-after (job-of s) p o ≤ suc (operations s)
-unfolding operation-after job-of
-next-to s p o h = omega (arith, seek-to (λ i. same (job-of s .owner i) p) (suc o) (operations s - o))
+module _ {stream : List ℕ} {job : Heading} (r : Runnable stream job) where
+  pub its-object : job .object ≡ job-of stream .object
+  its-object = ap (λ (h : Heading). h .object) (r .told)
 
--- its record, or the four bytes behind the records, are in the stream
-pub next-in-stream : (s : List ℕ) (object : Kind) (count o p : ℕ) {q : ℕ} → Goes s object count o → q ≡ operation-after (job-of s) p o → 4 * q + 3 < length s
-next-in-stream s object count o p g e =
-    let e′ : count ≡ operations s = g .its-count in
-    let h : o ≤ count = g .in-hand in
-    let l : 4 * count + 8 ≤ length s = g .long in
-    let b : operation-after (job-of s) p o ≤ suc (operations s) = next-to s p o (omega arith) in
-    omega arith
+  pub its-count : job .count ≡ job-of stream .count
+  its-count = ap (λ (h : Heading). h .count) (r .told)
+
+  pub its-steps : job .steps ≡ job-of stream .steps
+  its-steps = ap (λ (h : Heading). h .steps) (r .told)
+
+  -- the limits as numbers, for arithmetic
+  pub few : job .count ≤ field .operations
+  unfolding job-of
+  few = subst (λ n. n ≤ field .operations) (sym its-count) (r .ready .few)
+
+  pub short : job .steps ≤ field .steps
+  unfolding job-of
+  short = subst (λ n. n ≤ field .steps) (sym its-steps) (r .ready .short)
+
+  long : length stream ≡ 17710
+  unfolding most-stream payload-size
+  long = r .ready .long
+
+  -- the records of its operations, and four bytes behind them
+  pub record-there : (o : ℕ) → o ≤ suc (job .count) → record-at o + 3 < length stream
+  unfolding record-at
+  record-there o h = omega (arith, few, long)
+
+  -- the operation after one of the job's is one, or the next number
+  pub next-to : (p o : ℕ) → o ≤ job .count → operation-after (job-of stream) p o ≤ suc (job .count)
+  unfolding operation-after
+  next-to p o h = omega (arith, its-count, seek-to (λ i. same (job-of stream .owner i) p) (suc o) (job-of stream .count - o))
+
+  -- the entries of its schedule, each one of eight processes
+  pub entry-there : (k : ℕ) → k ≤ job .steps → 5 + 4 * job .count + k < length stream
+  entry-there k h = omega (arith, few, short, long)
+
+  pub entry-in-range : (k : ℕ) → 1 ≤ k → k ≤ job .steps → job-of stream .entry k < field .processes
+  unfolding job-of
+  entry-in-range k low high = r .ready .in-range k low (omega (arith, its-steps))

@@ -1,34 +1,31 @@
--- The places of a run: eight before their first operations, and whether all of them have come to their end. Assumes nothing.
+-- The places of a run: eight before their first operations, and how many still have operations. Assumes nothing.
 use mathlib.Core.Path.{_≡_, refl, sym, ap, subst, _∙_}
 use mathlib.Core.Logic.{_≢_, _⊎_, inl, inr}
 use Prim.Native.Nat.{ℕ, zero, suc, _+_, _≤_, _<_}
 use native.Mathlib.Nat.{not-suc-le-zero, le-of-suc-le-suc}
 use native.Mathlib.Numerals.{add-one}
 use native.Mathlib.Omega.{arith}
-use mathlib.Core.Bool.{Bool, true, false, _&&_, true≢false}
 use mathlib.Core.List.{List, [], _∷_}
 use lib.ListN.{length, getD, set, drop, replicate, length-set, length-replicate, drop-of-length-le}
 use lib.Seq.{getD-set-same, getD-set-other, drop-cons}
-use Rattle.basics.specs.Choice.{less}
-use Rattle.basics.proofs.Choice.{split, less-lt, lt-less, le-less}
-use Rattle.job.specs.Refusals.{most-processes}
+use Rattle.basics.proofs.Choice.{split, compare, pick-then, pick-else, lt-less, le-less}
+use Rattle.job.specs.Limits.{field}
 use Rattle.job.specs.Job.{Job}
 use Rattle.machine.specs.declared.Place.{Place}
 use Rattle.machine.specs.Run.{before, operation-after, fresh-state, state-after}
-use Rattle.run.specs.Promise.{nowhere, InPlace, all-rest}
+use Rattle.run.specs.Promise.{nowhere, InPlace, still, working}
 
 -- places stay eight where one is stored
-pub eight-kept : (places : List Place) (p : ℕ) (r : Place) → length places ≡ most-processes → length (set places p r) ≡ most-processes
+pub eight-kept : (places : List Place) (p : ℕ) (r : Place) → length places ≡ field .processes → length (set places p r) ≡ field .processes
 eight-kept places p r eight = length-set places p r ∙ eight
 
 -- the first n places are before their processes' first operations
 pub record LinedUp (j : Job) (n : ℕ) (places : List Place) : Type 0 where
-  pub eight : length places ≡ most-processes
+  pub eight : length places ≡ field .processes
   pub each : (p : ℕ) → p < n → getD places p nowhere ≡ before j (operation-after j p 0)
 
 module _ (j : Job) where
   pub lined-first : (r : Place) → r ≡ before j (operation-after j 0 0) → LinedUp j 1 (replicate 8 r)
-  unfolding most-processes
   lined-first r e =
       record {
         eight = length-replicate 8 r;
@@ -37,7 +34,7 @@ module _ (j : Job) where
             subst (λ q. getD (replicate 8 r) q nowhere ≡ before j (operation-after j q 0)) (sym z) e;
       }
 
-  pub lined-next : (places : List Place) (p : ℕ) (r : Place) → p < most-processes → LinedUp j p places → r ≡ before j (operation-after j p 0) → LinedUp j (p + 1) (set places p r)
+  pub lined-next : (places : List Place) (p : ℕ) (r : Place) → p < field .processes → LinedUp j p places → r ≡ before j (operation-after j p 0) → LinedUp j (p + 1) (set places p r)
   lined-next places p r in-range l e =
       record {
         eight = eight-kept places p r (l .eight);
@@ -50,44 +47,69 @@ module _ (j : Job) where
           (getD-set-same places p r nowhere (subst (λ n. p < n) (sym (l .eight)) in-range) ∙ e)
       go q h (inr there) = getD-set-other places p q r nowhere there ∙ l .each q (omega arith)
 
-  pub lined-all : {n : ℕ} (places : List Place) → n ≡ most-processes → LinedUp j n places → InPlace j 0 places
+  pub lined-all : {n : ℕ} (places : List Place) → n ≡ field .processes → LinedUp j n places → InPlace j 0 places
   unfolding state-after fresh-state
   lined-all places e l = record { eight = l .eight; each = λ p h. l .each p (subst (λ n. p < n) (sym e) h) }
 
--- whether the places from p on all rest: what the place of p says
-module _ (count : ℕ) (places : List Place) (eight : length places ≡ most-processes) (p : ℕ) where
-  place-says : {b : Bool} → p < most-processes → less count (getD places p nowhere .operation .0) ≡ b → b && all-rest count (drop (p + 1) places) ≡ all-rest count (drop p places)
-  unfolding all-rest
-  place-says h e =
+pub still-has : (count o : ℕ) → o ≤ count → still count o ≡ 1
+unfolding still
+still-has count o h = pick-else 0 1 (le-less h)
+
+pub still-none : (count o : ℕ) → count < o → still count o ≡ 0
+unfolding still
+still-none count o h = pick-then 0 1 (lt-less h)
+
+-- how many of the places from p on still have operations: what the place of p adds
+module _ (count : ℕ) (places : List Place) (eight : length places ≡ field .processes) (p : ℕ) where
+  working-next : p < field .processes → still count (getD places p nowhere .operation .0) + working count (drop (p + 1) places) ≡ working count (drop p places)
+  unfolding working
+  working-next h =
       sym
-      (ap (all-rest count) (drop-cons places p nowhere (subst (λ n. p < n) (sym eight) h))
-      ∙ (λ i. e i && all-rest count (drop (sym (add-one p) i) places)))
+      (ap (working count) (drop-cons places p nowhere (subst (λ n. p < n) (sym eight) h))
+      ∙ (λ i. still count (getD places p nowhere .operation .0) + working count (drop (sym (add-one p) i) places)))
 
-  pub place-acts : p < most-processes → getD places p nowhere .operation .0 ≤ count → false ≡ all-rest count (drop p places)
-  place-acts h low = place-says h (le-less low)
+  -- so many were counted before p, and its place adds none, or one
+  pub counted-none : (total : ℕ) {all : ℕ} → p < field .processes → count < getD places p nowhere .operation .0 → total + working count (drop p places) ≡ all → total + working count (drop (p + 1) places) ≡ all
+  counted-none total h past so-far = omega (arith, working-next h, still-none count _ past)
 
-  pub place-rests : p < most-processes → count < getD places p nowhere .operation .0 → all-rest count (drop (p + 1) places) ≡ all-rest count (drop p places)
-  place-rests h high = place-says h (lt-less high)
+  pub counted-one : (total : ℕ) {all : ℕ} → p < field .processes → getD places p nowhere .operation .0 ≤ count → total + working count (drop p places) ≡ all → total + 1 + working count (drop (p + 1) places) ≡ all
+  counted-one total h has so-far = omega (arith, working-next h, still-has count _ has)
 
-  pub places-end : most-processes ≤ p → true ≡ all-rest count (drop p places)
-  unfolding all-rest
-  places-end h = sym (ap (all-rest count) (drop-of-length-le places (subst (λ n. n ≤ p) (sym eight) h)))
+  pub counted-all : (total : ℕ) {all : ℕ} → field .processes ≤ p → total + working count (drop p places) ≡ all → total ≡ all
+  unfolding working
+  counted-all total h so-far = omega (arith, none, so-far)
+    where
+      none : working count (drop p places) ≡ 0
+      none = ap (working count) (drop-of-length-le places (subst (λ n. n ≤ p) (sym eight) h))
+
+-- a place adds what it has
+pub working-has : (count : ℕ) (places : List Place) (p : ℕ) → p < length places → still count (getD places p nowhere .operation .0) ≤ working count places
+unfolding working
+working-has count [] p h = absurd (not-suc-le-zero h)
+working-has count (place ∷ places) zero h = omega arith
+working-has count (place ∷ places) (suc p) h = omega (arith, working-has count places p (le-of-suc-le-suc h))
+
+-- a place that is stored adds its own and takes away what was there
+pub working-set : (count : ℕ) (places : List Place) (p : ℕ) (r : Place) → p < length places → working count (set places p r) + still count (getD places p nowhere .operation .0) ≡ working count places + still count (r .operation .0)
+unfolding working
+working-set count [] p r h = absurd (not-suc-le-zero h)
+working-set count (place ∷ places) zero r h = omega arith
+working-set count (place ∷ places) (suc p) r h = omega (arith, working-set count places p r (le-of-suc-le-suc h))
 
 -- every process has come to the end of its operations
 abbrev pub EachRests : ℕ → List Place → Type 0
-EachRests count places = (p : ℕ) → p < most-processes → count < getD places p nowhere .operation .0
+EachRests count places = (p : ℕ) → p < field .processes → count < getD places p nowhere .operation .0
 
--- a test of two is met: each of them is
-both-true : (a b : Bool) → a && b ≡ true → (a ≡ true) × (b ≡ true)
-both-true true b e = (refl, e)
-both-true false b e = absurd (true≢false (sym e))
+-- where no process has operations left, each rests
+none-left : (count : ℕ) (places : List Place) (p : ℕ) → p < length places → working count places ≡ 0 → count < getD places p nowhere .operation .0
+unfolding working
+none-left count [] p h e = absurd (not-suc-le-zero h)
+none-left count (place ∷ places) zero h e = past (compare (place .operation .0) count)
+  where
+    past : (place .operation .0 ≤ count) ⊎ (count < place .operation .0) → count < place .operation .0
+    past (inl low) = absurd (let b : ⊥ = omega (arith, still-has count (place .operation .0) low, e) in b)
+    past (inr high) = high
+none-left count (place ∷ places) (suc p) h e = none-left count places p (le-of-suc-le-suc h) (omega arith)
 
--- all places of a list rest: each does
-rests-at : (count : ℕ) (places : List Place) (p : ℕ) → p < length places → all-rest count places ≡ true → count < getD places p nowhere .operation .0
-unfolding all-rest
-rests-at count [] p h e = absurd (not-suc-le-zero h)
-rests-at count (place ∷ places) zero h e = less-lt (both-true _ _ e .0)
-rests-at count (place ∷ places) (suc p) h e = rests-at count places p (le-of-suc-le-suc h) (both-true (less count (place .operation .0)) _ e .1)
-
-pub each-rests : (count : ℕ) (places : List Place) → length places ≡ most-processes → all-rest count places ≡ true → EachRests count places
-each-rests count places eight e p h = rests-at count places p (subst (λ n. p < n) (sym eight) h) e
+pub each-rests : (count : ℕ) (places : List Place) → length places ≡ field .processes → working count places ≡ 0 → EachRests count places
+each-rests count places eight e p h = none-left count places p (subst (λ n. p < n) (sym eight) h) e

@@ -4,34 +4,34 @@ use mathlib.Core.Path.{_≡_, refl, sym, subst, _∙_}
 use Prim.Native.Nat.{ℕ, zero, suc, _+_, _-_, _≤_, _<_}
 use native.Mathlib.Omega.{arith}
 use mathlib.Core.List.{List}
-use Rattle.job.specs.declared.Kind.{Kind}
+use Rattle.job.specs.declared.Heading.{Heading}
 use Rattle.job.specs.Job.{Job, job-of}
 use Rattle.machine.specs.declared.Place.{Place}
 use Rattle.machine.specs.Idle.{IdleBehind}
-use Rattle.run.specs.Promise.{Runnable, Room, Ran}
+use Rattle.run.specs.Promise.{Runnable, Ran}
 use Rattle.run.proofs.Places.{EachRests}
-use Rattle.run.proofs.Loop.{Turning, entry-in-range, turning-rests}
+use Rattle.run.proofs.Loop.{Turning, p-in-range, turning-rests}
 
 -- what every step up to the last one keeps
 kept : (P : ℕ → Type 0) (end : ℕ) → ((k : ℕ) → k < end → P k → P (k + 1)) → (k n : ℕ) → k + n ≡ end → P k → P end
 kept P end step k zero e h = let done : k ≡ end = omega arith in subst P done h
 kept P end step k (suc n) e h = kept P end step (k + 1) n (omega arith) (step k (omega arith) h)
 
-module _ {stream : List ℕ} {object : Kind} {count steps : ℕ} (r : Runnable stream object count steps) {k : ℕ} {places : List Place} {head tail top : ℕ} {next₀ mark₀ first₀ last₀ start₀ link₀ taken₀ stands₀ by₀ next mark first last start link taken stands by : List ℕ} (t : Turning stream steps k places head tail top next₀ mark₀ first₀ last₀ start₀ link₀ taken₀ stands₀ by₀ next mark first last start link taken stands by) (room : Room next₀ mark₀ first₀ last₀ start₀ link₀ taken₀ stands₀ by₀) (rest : EachRests count places) where
+module _ {stream : List ℕ} {job : Heading} (r : Runnable stream job) {k : ℕ} {places : List Place} {total head tail top : ℕ} {nodes₀ ops₀ by₀ nodes ops by : List ℕ} (t : Turning stream job k places total head tail top nodes₀ ops₀ by₀ nodes ops by) (rest : EachRests (job .count) places) where
   -- the invariant holds after the last step, with the same places, cells and lists
-  settled : Turning stream steps steps places head tail top next₀ mark₀ first₀ last₀ start₀ link₀ taken₀ stands₀ by₀ next mark first last start link taken stands by
+  settled : Turning stream job (job .steps) places total head tail top nodes₀ ops₀ by₀ nodes ops by
   settled =
-      let small : k ≤ steps = t .small in
-      kept (λ x. Turning stream steps x places head tail top next₀ mark₀ first₀ last₀ start₀ link₀ taken₀ stands₀ by₀ next mark first last start link taken stands by) steps
-      (λ x more u. turning-rests r u more room (job-of stream .entry (suc x)) refl (rest _ (entry-in-range r x more)))
-      k (steps - k) (omega arith) t
+      let small : k ≤ job .steps = t .small in
+      kept (λ x. Turning stream job x places total head tail top nodes₀ ops₀ by₀ nodes ops by) (job .steps)
+      (λ x more u. turning-rests r u more (job-of stream .entry (x + 1)) refl (rest _ (p-in-range r u more (job-of stream .entry (x + 1)) refl)))
+      k (job .steps - k) (omega arith) t
 
   -- so what the code has now is what it has at the end
-  pub ran-to-end : Ran (job-of stream) steps head tail top next mark first last start link taken stands by
+  pub ran-to-end : Ran (job-of stream) (job .steps) head tail top nodes ops by
   ran-to-end = settled .ran
 
   -- and nobody makes the steps behind step k
-  pub idle-behind : IdleBehind (job-of stream) k steps
+  pub idle-behind : IdleBehind (job-of stream) k (job .steps)
   idle-behind =
       record {
         within = t .small;

@@ -11,7 +11,7 @@ use Rattle.basics.specs.Choice.{pick}
 use Rattle.basics.specs.Maps.{upd}
 use Rattle.basics.proofs.Choice.{split, pick-then, pick-else}
 use Rattle.basics.proofs.Maps.{upd-here, upd-there}
-use Rattle.job.specs.Refusals.{most-processes}
+use Rattle.job.specs.Limits.{field}
 use Rattle.job.specs.Job.{Job}
 use Rattle.job.specs.declared.Operation as Machine
 use Rattle.machine.specs.declared.Place.{Place}
@@ -23,7 +23,7 @@ use Rattle.machine.specs.Notes.{Note, idle, acted, note, is-answer}
 use Rattle.machine.proofs.Bounds.{within}
 use Rattle.theory.proofs.Course.{PassesIn, ActsIn, passes-by}
 use Rattle.theory.proofs.Operations.{course}
-use Rattle.access.specs.View.{memory-of}
+use Rattle.access.specs.Nodes.{memory-of}
 use Rattle.step.specs.declared.Stepped.{Stepped}
 use Rattle.step.specs.Promise.{IsStep, event-at}
 use Rattle.journal.specs.Stored.{Stored}
@@ -36,9 +36,9 @@ pub record Made (place : Place) (m m′ : Memory) (s : Stepped) : Type 0 where
   pub registers : record { h = s .h; t = s .t; n = s .n } ≡ reached m place .registers
   pub row : s .row ≡ row-after place (reached m place)
 
-pub made-from : {place : Place} {head tail top : ℕ} {next mark next′ mark′ : List ℕ} {s : Stepped} {m : Memory} → memory-of head tail top next mark ≡ m → IsStep place head tail top next mark s next′ mark′ → Made place m (memory-of (s .head) (s .tail) (s .top) next′ mark′) s
-made-from {place} {next′ = next′} {mark′ = mark′} {s = s} e is =
-    subst (λ x. Made place x (memory-of (s .head) (s .tail) (s .top) next′ mark′) s) e
+pub made-from : {place : Place} {head tail top : ℕ} {nodes nodes′ : List ℕ} {s : Stepped} {m : Memory} → memory-of head tail top nodes ≡ m → IsStep place head tail top nodes s nodes′ → Made place m (memory-of (s .head) (s .tail) (s .top) nodes′) s
+made-from {place} {nodes′ = nodes′} {s = s} e is =
+    subst (λ x. Made place x (memory-of (s .head) (s .tail) (s .top) nodes′) s) e
     (record { memory = is .memory; registers = is .registers; row = is .row })
 
 -- the place after the step of an operation: before the process's next one if it ended, and else further on
@@ -110,7 +110,7 @@ module _ (j : Job) (k : ℕ) where
       go (inr (o, acts)) = subst (ActsIn (course j) k) (sym (acts .by) ∙ own) acts
 
   -- a resting process leaves everything
-  pub ran-rests : {head tail top : ℕ} {next mark first last start link taken stands by : List ℕ} → resting j place ≡ true → Ran j k head tail top next mark first last start link taken stands by → Ran j (suc k) head tail top next mark first last start link taken stands by
+  pub ran-rests : {head tail top : ℕ} {nodes ops by : List ℕ} → resting j place ≡ true → Ran j k head tail top nodes ops by → Ran j (suc k) head tail top nodes ops by
   ran-rests e r =
       record {
         memory = r .memory ∙ ap (λ (s : State). s .memory) (sym (state-rests e));
@@ -135,14 +135,14 @@ module _ (j : Job) (k : ℕ) where
         n = made .registers i .n;
       }))
 
-  pub places-act : (places : List Place) (q : Place) → resting j place ≡ false → process < most-processes → InPlace j k places → q ≡ place-after j process place a → InPlace j (suc k) (set places process q)
+  pub places-act : (places : List Place) (q : Place) → resting j place ≡ false → process < field .processes → InPlace j k places → q ≡ place-after j process place a → InPlace j (suc k) (set places process q)
   places-act places q e in-range l f =
       record { eight = length-set places process q ∙ l .eight; each = λ p h. go p h (split p process) }
     where
       now : (p : ℕ) → state-after j (suc k) .places p ≡ upd (state-after j k .places) process (place-after j process place a) p
       now p = ap (λ (s : State). s .places p) (state-acts e)
 
-      go : (p : ℕ) → p < most-processes → (p ≡ process) ⊎ (p ≢ process) → getD (set places process q) p nowhere ≡ state-after j (suc k) .places p
+      go : (p : ℕ) → p < field .processes → (p ≡ process) ⊎ (p ≢ process) → getD (set places process q) p nowhere ≡ state-after j (suc k) .places p
       go p h (inl here) =
           subst (λ x. getD (set places process q) x nowhere ≡ state-after j (suc k) .places x) (sym here)
           (getD-set-same places process q nowhere (subst (λ n. process < n) (sym (l .eight)) in-range)
@@ -152,11 +152,11 @@ module _ (j : Job) (k : ℕ) where
           getD-set-other places process p q nowhere there ∙ l .each p h ∙ sym (now p ∙ upd-there _ process _ there)
 
   -- an acting process: memory and journal of one more step
-  pub ran-acts : {head tail top : ℕ} {next mark first last start link taken stands by next′ mark′ first′ last′ start′ link′ taken′ stands′ by′ : List ℕ} {s : Stepped} → resting j place ≡ false → Ran j k head tail top next mark first last start link taken stands by → IsStep place head tail top next mark s next′ mark′ → Stored (event-at place head tail top next mark) (ended (s .row)) (place .operation .0) (suc k) first last start link taken stands by first′ last′ start′ link′ taken′ stands′ by′ → Ran j (suc k) (s .head) (s .tail) (s .top) next′ mark′ first′ last′ start′ link′ taken′ stands′ by′
+  pub ran-acts : {head tail top : ℕ} {nodes ops by nodes′ ops′ by′ : List ℕ} {s : Stepped} → resting j place ≡ false → Ran j k head tail top nodes ops by → IsStep place head tail top nodes s nodes′ → Stored (event-at place head tail top nodes) (ended (s .row)) (place .operation .0) (suc k) ops by ops′ by′ → Ran j (suc k) (s .head) (s .tail) (s .top) nodes′ ops′ by′
   unfolding acted event-at
-  ran-acts {head} {tail} {top} {next} {mark} {first} {last} {start} {link} {taken} {stands} {by} {first′ = first′} {last′ = last′} {start′ = start′} {link′ = link′} {taken′ = taken′} {stands′ = stands′} {by′ = by′} {s = s} e r is stored =
+  ran-acts {head} {tail} {top} {nodes} {ops} {by} {ops′ = ops′} {by′ = by′} {s = s} e r is stored =
       let made = made-from (r .memory) is in
-      let event : event-at place head tail top next mark ≡ note j (suc k) .event =
+      let event : event-at place head tail top nodes ≡ note j (suc k) .event =
       ap (λ (m : Memory). acted place (reached m place) .event) (r .memory) ∙ ap (λ (n : Note). n .event) (sym (note-acts e))
       in
       let answered : is-answer (note j (suc k) .answer) ≡ ended (s .row) =
@@ -168,5 +168,5 @@ module _ (j : Job) (k : ℕ) where
         memory = made .memory ∙ ap (λ (x : State). x .memory) (sym (state-acts e));
         journal =
             holds-acts j k (place .operation .0) (acts-of e) answered (r .journal)
-            (subst (λ v. Stored v (ended (s .row)) (place .operation .0) (suc k) first last start link taken stands by first′ last′ start′ link′ taken′ stands′ by′) event stored);
+            (subst (λ v. Stored v (ended (s .row)) (place .operation .0) (suc k) ops by ops′ by′) event stored);
       }

@@ -2,26 +2,26 @@
 use mathlib.Core.Path.{_≡_, ap, _∙_}
 use Prim.Native.Nat.{ℕ}
 use mathlib.Core.Bool.{Bool}
-use Rattle.basics.specs.Choice.{pick}
+use Rattle.rows.specs.Operations.{Cells}
+use Rattle.machine.specs.declared.Event.{Event}
+use Rattle.journal.specs.Stored.{entered, noted, closed}
 use borrow.Author.Needs.{needs}
 use Rattle.run.proofs.make.Statement.{statement}
 use Rattle.run.proofs.make.Tie as tie
 
--- a choice by the same test
-chosen-as : (f g : ℕ → ℕ) {h : ℕ → ℕ} {b ends : Bool} → b ≡ ends → h ≡ pick b f g → h ≡ pick ends f g
-chosen-as f g same e = e ∙ ap (λ x. pick x f g) same
-
-enter-end-requires : tie.Need-enter-end-requires
-enter-end-requires c κs = c .before .before .before .before .before .before .before .before .before .before .before .before .before .before .before .before .before .before .before .before .before .before .before .before .before .before .before .before .before .before .before .before .before .before .before .before .before .before .pre .entering .in-last
+-- the three stores, one after the other
+in-turn : (e : Event) (o k : ℕ) (c : Cells) {c₁ c₂ c₃ : Cells} {b ends : Bool} → c₁ ≡ entered o k c → c₂ ≡ noted e o k c₁ → c₃ ≡ closed b o k c₂ → b ≡ ends → c₃ ≡ closed ends o k (noted e o k (entered o k c))
+in-turn e o k c first then last same = last ∙ (λ i. closed (same i) o k ((then ∙ ap (noted e o k) first) i))
 
 returns : tie.Need-returns
 returns c =
-    let made = c .before .before .before .before .before .before .before .before .before .before .before .before .before .before .before .before .before .step .ensures in (
-      made .0,
+    let end = c .before .before in
+    let made = end .before .before .before .before .before .before .before in
+    let enter = made .before .before .before .before .before .before .before .enter .ensures in (
+      made .step .ensures .0,
       record {
-        entered = c .before .before .before .before .before .before .before .before .before .before .before .before .before .before .before .before .before .before .before .before .before .before .before .before .before .before .before .before .enter .ensures;
-        last-stored = chosen-as _ _ (c .before .before .before .before .has-ended .ensures) (c .before .before .enter-end .ensures);
-        event-stored = made .1;
+        cells-stored = in-turn _ _ _ _ (enter .0) (made .step .ensures .1) (end .enter-end .ensures) (end .before .before .has-ended .ensures);
+        by-stored = enter .1;
       },
     )
 
@@ -29,6 +29,5 @@ pub make-spec : {M : Type 1} → statement M
 make-spec =
     tie.close
     (tie.spec
-    (λ c κs. search needs) (λ c κs. search needs) (λ c κs. search needs) enter-end-requires (λ c. search needs)
-    (λ c. search needs) (λ c. search needs) (λ c. search needs) (λ c. search needs) (λ c. search needs) (λ c. search needs)
+    (λ c κs. search needs) (λ c κs. search needs) (λ c κs. search needs) (λ c κs. search needs) (λ c. search needs)
     (λ c. search needs) (λ c. search needs) returns)

@@ -1,16 +1,22 @@
 -- `run::place_after` meets its contract: the search's result is an operation or the number after them, so its record can be read. Assumes nothing.
-use mathlib.Core.Path.{ap, _∙_}
+use mathlib.Core.Path.{sym, ap, subst, _∙_}
+use Prim.Native.Nat.{suc, _≤_}
+use native.Mathlib.Omega.{arith}
 use Rattle.machine.specs.Run.{before}
-use Rattle.run.proofs.Bounds.{next-in-stream}
-use borrow.Author.Needs.{needs}
+use Rattle.run.proofs.Bounds.{its-object, its-count, few, record-there, next-to}
 use Rattle.run.proofs.place_after.Statement.{statement}
 use Rattle.run.proofs.place_after.Tie as tie
 
 next-operation-requires : tie.Need-next-operation-requires
-next-operation-requires c κs = search needs
+next-operation-requires c κs =
+    let r = c .before .pre .0 in
+    (its-count r, record-there r _ (omega arith), omega (arith, few r), c .before .pre .1)
 
 begin-requires : tie.Need-begin-requires
-begin-requires c κs = (next-in-stream _ _ _ _ _ (c .before .before .pre) (c .next-operation .ensures), c .before .before .pre .its-object)
+begin-requires c κs =
+    let start = c .before .before in
+    let r = start .pre .0 in
+    (record-there r _ (subst (λ q. q ≤ suc (start .args .job .count)) (sym (c .next-operation .ensures)) (next-to r _ _ (start .pre .1))), its-object r)
 
 returns : tie.Need-returns
 returns c = c .begin .ensures ∙ ap (before _) (c .before .next-operation .ensures)
