@@ -111,10 +111,10 @@ fn working_on(total: u8, count: u16, o: Operation) -> u8
     requires { ⌜ 1 ≤ total ⌝ }
     ensures { λ r. ⌜ r ≡ total - 1 + still count (o .0) ⌝ }
 {
-    if count < o.0 {
-        return total - 1;
+    if o.0 <= count {
+        return total;
     }
-    total
+    total - 1
 }
 
 // Makes step k, that of a place, and enters it in the journal. What does not hang on the access is entered before it: a processor does
