@@ -15,19 +15,10 @@ returns-2 : tie.Need-returns-2
 unfolding most-file most-blocks block-size
 returns-2 c = λ out e. past-room (c .before .before .before .args .s .now) out (omega arith) (short-decides (c .before .before .before .args .s .now) (c .if2 .taken))
 
-header-requires : tie.Need-header-requires
-header-requires c κs = search needs
-
 returns-3 : tie.Need-returns-3
 unfolding most-file most-blocks block-size
 returns-3 c =
     λ out e. past-room (c .before .before .before .before .before .args .s .now) out (omega arith) (past-short (c .before .before .before .before .before .args .s .now) (c .before .before .if2 .left) (header-decides (c .before .before .before .before .before .args .s .now) (c .before .header .ensures) (c .if3 .taken)))
-
-stream-length-requires : tie.Need-stream-length-requires
-stream-length-requires c κs = search needs
-
-cast-if4 : tie.Need-cast-if4
-cast-if4 c = search needs
 
 returns-4 : tie.Need-returns-4
 unfolding most-file most-blocks block-size
@@ -36,9 +27,6 @@ returns-4 c =
     (past-short (c .before .before .before .before .before .before .before .args .s .now) (c .before .before .before .before .if2 .left)
     (past-header (c .before .before .before .before .before .before .before .args .s .now) (c .before .before .before .header .ensures) (c .before .before .if3 .left)
     (length-decides (c .before .before .before .before .before .before .before .args .s .now) (c .before .stream-length .ensures) (c .if4 .taken))))
-
-lists-requires : tie.Need-lists-requires
-lists-requires c κs = search needs
 
 returns-5 : tie.Need-returns-5
 unfolding most-file most-blocks block-size
@@ -54,10 +42,10 @@ refusal-spec =
     (tie.spec
     returns
     returns-2
-    header-requires
+    (λ c κs. search needs)
     returns-3
-    stream-length-requires
-    cast-if4
+    (λ c κs. search needs)
+    (λ c. search needs)
     returns-4
-    lists-requires
+    (λ c κs. search needs)
     returns-5)

@@ -14,12 +14,6 @@ use native.Mathlib.Omega.{arith}
 use Rattle.writer.proofs.write.Statement.{statement}
 use Rattle.writer.proofs.write.Tie as tie
 
-refusal-requires : tie.Need-refusal-requires
-refusal-requires c κs = search needs
-
-refused-requires : tie.Need-refused-requires
-refused-requires c κs = search needs
-
 returns : tie.Need-returns
 returns c =
     let e = c .refused .ensures in
@@ -46,9 +40,6 @@ mul-t5 c =
     let g = written-good (c .before .before .before .before .before .before .before .before .before .args .stream .now) (c .before .before .before .before .before .before .before .before .before .args .out .now) (sym (c .before .before .before .before .before .before .refusal .ensures (c .before .before .before .before .before .before .before .before .before .args .out .now) refl) ∙ c .before .before .before .before .before .if1 .left) in
     omega (arith, c .before .before .before .before .exact-count .ensures, fine-small (c .before .before .before .before .before .before .before .before .before .args .stream .now) (g .1 .fine))
 
-same-length : tie.Need-same-length
-same-length c = search needs
-
 returns-2 : tie.Need-returns-2
 unfolding block-size
 returns-2 c =
@@ -66,11 +57,11 @@ pub write-spec : {M : Type 1} → statement M
 write-spec =
     tie.close
     (tie.spec
-    refusal-requires
-    refused-requires
+    (λ c κs. search needs)
+    (λ c κs. search needs)
     returns
     exact-count-requires
     put-blocks-requires
     mul-t5
-    same-length
+    (λ c. search needs)
     returns-2)
