@@ -10,7 +10,7 @@ use Rattle.basics.specs.Maps.{at}
 use Rattle.basics.proofs.Choice.{lt-less, le-less}
 use Rattle.job.specs.declared.Kind.{Kind}
 use Rattle.job.specs.Stream.{operations, scheduled}
-use Rattle.job.specs.Refusals.{most-operations, most-processes, most-steps}
+use Rattle.job.specs.Limits.{field}
 use Rattle.job.specs.Job.{Job, job-of}
 use Rattle.job.specs.declared.Operation as Machine
 use Rattle.machine.specs.declared.Place.{Place}
@@ -61,7 +61,6 @@ later s n m f l st li ta sd b =
 module _ {stream : List ℕ} {object : Kind} {count steps : ℕ} (r : Runnable stream object count steps) where
   -- an operation in hand is one of the stream's
   pub goes : (o : ℕ) → o ≤ count → Goes stream object count o
-  unfolding most-operations
   goes o h = record { its-object = r .its-object; its-count = r .its-count; few = r .few; long = r .records; in-hand = h }
 
   -- the byte that the code reads for step k + 1 is the scheduled process
@@ -69,12 +68,11 @@ module _ {stream : List ℕ} {object : Kind} {count steps : ℕ} (r : Runnable s
   unfolding job-of scheduled at
   entry-byte k = let e : count ≡ operations stream = r .its-count in ap (λ (i : ℕ). getD stream i 0) (let q : 4 * count + 6 + k ≡ 5 + 4 * operations stream + suc k = omega arith in q)
 
-  pub entry-in-range : (k : ℕ) → k < steps → job-of stream .entry (suc k) < most-processes
+  pub entry-in-range : (k : ℕ) → k < steps → job-of stream .entry (suc k) < field .processes
   unfolding job-of
   entry-in-range k h = r .in-range (suc k) (omega arith) (omega arith)
 
   pub byte-in-range : (k : ℕ) → k < steps → getD stream (4 * count + 6 + k) 0 < 8
-  unfolding most-processes
   byte-in-range k h = subst (λ x. x < 8) (sym (entry-byte k)) (entry-in-range k h)
 
 -- at the start: fresh memory and an empty journal
@@ -114,7 +112,7 @@ finished {stream} {steps} {k} {head = head} {tail = tail} {top = top} {next = ne
     subst (λ x. Ran (job-of stream) x head tail top next mark first last start link taken stands by) e (t .ran)
 
 -- the place that the code takes out
-place-within : {j : Job} {k p : ℕ} {places : List Place} → InPlace j k places → p < most-processes → PlaceWithin (j .count) (getD places p nowhere)
+place-within : {j : Job} {k p : ℕ} {places : List Place} → InPlace j k places → p < field .processes → PlaceWithin (j .count) (getD places p nowhere)
 place-within {j} {k} {p} l h = subst (PlaceWithin (j .count)) (sym (l .each p h)) (within j k .place p)
 
 module _ {stream : List ℕ} {object : Kind} {count steps : ℕ} (r : Runnable stream object count steps) where
@@ -130,8 +128,8 @@ module _ {stream : List ℕ} {object : Kind} {count steps : ℕ} (r : Runnable s
     abbrev place : Place
     place = getD places p nowhere
 
-    p-in-range : p < most-processes
-    p-in-range = subst (λ x. x < most-processes) (sym scheduled-is) (entry-in-range r k more)
+    p-in-range : p < field .processes
+    p-in-range = subst (λ x. x < field .processes) (sym scheduled-is) (entry-in-range r k more)
 
     its-place : place ≡ state-after (job-of stream) k .places process
     its-place = ap (λ x. getD places x nowhere) scheduled-is ∙ t .in-place .each process (entry-in-range r k more)
@@ -179,8 +177,8 @@ module _ {stream : List ℕ} {object : Kind} {count steps : ℕ} (r : Runnable s
     unfolding registers
     makes h =
         let w : PlaceWithin count place = own-place in
-        let few : count ≤ most-operations = r .few in
-        let short : steps ≤ most-steps = r .short in
+        let few : count ≤ field .operations = r .few in
+        let short : steps ≤ field .steps = r .short in
         let item : item-of (event-at place head tail top next mark) ≤ count = item-in h in
         record {
           going = w .going;

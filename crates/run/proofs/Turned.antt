@@ -11,7 +11,7 @@ use Rattle.basics.specs.Choice.{pick}
 use Rattle.basics.specs.Maps.{upd}
 use Rattle.basics.proofs.Choice.{split, pick-then, pick-else}
 use Rattle.basics.proofs.Maps.{upd-here, upd-there}
-use Rattle.job.specs.Refusals.{most-processes}
+use Rattle.job.specs.Limits.{field}
 use Rattle.job.specs.Job.{Job}
 use Rattle.job.specs.declared.Operation as Machine
 use Rattle.machine.specs.declared.Place.{Place}
@@ -135,14 +135,14 @@ module _ (j : Job) (k : ℕ) where
         n = made .registers i .n;
       }))
 
-  pub places-act : (places : List Place) (q : Place) → resting j place ≡ false → process < most-processes → InPlace j k places → q ≡ place-after j process place a → InPlace j (suc k) (set places process q)
+  pub places-act : (places : List Place) (q : Place) → resting j place ≡ false → process < field .processes → InPlace j k places → q ≡ place-after j process place a → InPlace j (suc k) (set places process q)
   places-act places q e in-range l f =
       record { eight = length-set places process q ∙ l .eight; each = λ p h. go p h (split p process) }
     where
       now : (p : ℕ) → state-after j (suc k) .places p ≡ upd (state-after j k .places) process (place-after j process place a) p
       now p = ap (λ (s : State). s .places p) (state-acts e)
 
-      go : (p : ℕ) → p < most-processes → (p ≡ process) ⊎ (p ≢ process) → getD (set places process q) p nowhere ≡ state-after j (suc k) .places p
+      go : (p : ℕ) → p < field .processes → (p ≡ process) ⊎ (p ≢ process) → getD (set places process q) p nowhere ≡ state-after j (suc k) .places p
       go p h (inl here) =
           subst (λ x. getD (set places process q) x nowhere ≡ state-after j (suc k) .places x) (sym here)
           (getD-set-same places process q nowhere (subst (λ n. process < n) (sym (l .eight)) in-range)

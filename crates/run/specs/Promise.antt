@@ -8,7 +8,7 @@ use Rattle.basics.specs.Choice.{less}
 use Rattle.basics.specs.Maps.{at}
 use Rattle.job.specs.declared.Kind.{Kind}
 use Rattle.job.specs.Stream.{operations, schedule-length, scheduled}
-use Rattle.job.specs.Refusals.{most-operations, most-processes, most-steps}
+use Rattle.job.specs.Limits.{field}
 use Rattle.job.specs.Job.{Job, job-of}
 use Rattle.machine.specs.declared.Place.{Place}
 use Rattle.machine.specs.declared.Row.the-variants.{Q1}
@@ -34,8 +34,8 @@ nowhere = record { operation = record { 0 = 0 }; row = Q1; h = 0; t = 0; n = 0 }
 
 -- the eight places are those of the definition after k steps
 pub record InPlace (j : Job) (k : ℕ) (places : List Place) : Type 0 where
-  pub eight : length places ≡ most-processes
-  pub each : (p : ℕ) → p < most-processes → getD places p nowhere ≡ state-after j k .places p
+  pub eight : length places ≡ field .processes
+  pub each : (p : ℕ) → p < field .processes → getD places p nowhere ≡ state-after j k .places p
 
 -- has every process come to the end of its operations: does each place stand at an operation past the last?
 unfoldable pub all-rest : ℕ → List Place → Bool
@@ -47,11 +47,11 @@ pub record Runnable (stream : List ℕ) (object : Kind) (count steps : ℕ) : Ty
   pub its-object : object ≡ job-of stream .object
   pub its-count : count ≡ operations stream
   pub its-steps : steps ≡ schedule-length stream
-  pub few : count ≤ most-operations
-  pub short : steps ≤ most-steps
+  pub few : count ≤ field .operations
+  pub short : steps ≤ field .steps
   pub records : 4 * count + 8 ≤ length stream
   pub entries : 4 * count + 6 + steps ≤ length stream
-  pub in-range : (k : ℕ) → 1 ≤ k → k ≤ steps → scheduled stream k < most-processes
+  pub in-range : (k : ℕ) → 1 ≤ k → k ≤ steps → scheduled stream k < field .processes
 
 -- memory and journal are those of the definition after k steps
 pub record Ran (j : Job) (k head tail top : ℕ) (next mark first last start link taken stands by : List ℕ) : Type 0 where
@@ -60,15 +60,15 @@ pub record Ran (j : Job) (k head tail top : ℕ) (next mark first last start lin
 
 -- a cell for every node or operation, and for every step
 pub record Room (next mark first last start link taken stands by : List ℕ) : Type 0 where
-  pub in-next : most-operations < length next
-  pub in-mark : most-operations < length mark
-  pub in-first : most-operations < length first
-  pub in-last : most-operations < length last
-  pub in-start : most-operations < length start
-  pub in-link : most-operations < length link
-  pub in-taken : most-operations < length taken
-  pub in-stands : most-operations < length stands
-  pub in-by : most-steps < length by
+  pub in-next : field .operations < length next
+  pub in-mark : field .operations < length mark
+  pub in-first : field .operations < length first
+  pub in-last : field .operations < length last
+  pub in-start : field .operations < length start
+  pub in-link : field .operations < length link
+  pub in-taken : field .operations < length taken
+  pub in-stands : field .operations < length stands
+  pub in-by : field .steps < length by
 
 -- every cell is 0: "A fresh queue has Head and Tail at node 0 and every next none; a fresh stack has Top none and every mark clear."
 abbrev pub Blank : List ℕ → Type 0

@@ -15,7 +15,7 @@ use table::has_ended;
 ghost use mathlib.Core.Path.{_≡_};
 ghost use Prim.Native.Nat.{_+_, _*_, _<_};
 ghost use lib.ListN.{length};
-ghost use Rattle.job.specs.Refusals.{«most-processes»};
+ghost use Rattle.job.specs.Limits.{field};
 ghost use Rattle.job.specs.Job.{«job-of»};
 ghost use Rattle.machine.specs.Memory.{fresh-memory};
 ghost use Rattle.machine.specs.Table.{ended};
@@ -91,7 +91,7 @@ fn line_up(stream: &[u8], object: Kind, count: u16) -> Run
 
 // Has every process come to the end of its operations?
 fn all_rest(run: Run, count: u16) -> bool
-    requires { ⌜ length (run .places) ≡ most-processes ⌝ }
+    requires { ⌜ length (run .places) ≡ field .processes ⌝ }
     ensures { λ r. ⌜ r ≡ all-rest count (run .places) ⌝ }
 {
     let mut p: usize = 0;

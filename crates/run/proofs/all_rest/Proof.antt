@@ -3,7 +3,6 @@
 use mathlib.Core.Path.{_≡_, refl, _∙_}
 use Prim.Native.Nat.{_-_, _≤_}
 use lib.ListN.{drop}
-use Rattle.job.specs.Refusals.{most-processes}
 use Rattle.run.specs.Promise.{all-rest}
 use Rattle.run.proofs.Places.{place-acts, place-rests, places-end}
 use native.Mathlib.Omega.{arith}
@@ -27,7 +26,6 @@ element-copy-out-place : tie.Need-element-copy-out-place Inv-loop μ-loop
 element-copy-out-place c = search needs
 
 returns : tie.Need-returns Inv-loop μ-loop
-unfolding most-processes
 returns c = place-acts _ _ (c .before .before .before .before .before .before .pre) _ (c .before .before .before .before .loop-test .taken) (omega (arith, c .if1 .taken)) ∙ c .before .before .before .before .before .loop .inv .1
 
 add-p : tie.Need-add-p Inv-loop μ-loop
@@ -37,11 +35,9 @@ loop-less : tie.Need-loop-less Inv-loop μ-loop
 loop-less c = search needs
 
 loop-again : tie.Need-loop-again Inv-loop μ-loop
-unfolding most-processes
 loop-again c = (search needs, place-rests _ _ (c .before .before .before .before .before .before .pre) _ (c .before .before .before .before .loop-test .taken) (c .if1 .left) ∙ c .before .before .before .before .before .loop .inv .1)
 
 returns-2 : tie.Need-returns-2 Inv-loop μ-loop
-unfolding most-processes
 returns-2 c = places-end _ _ (c .before .before .pre) _ (c .loop-test .left) ∙ c .before .loop .inv .1
 
 pub all-rest-spec : {M : Type 1} → statement M

@@ -2,7 +2,6 @@
 use borrow.Author.Needs.{needs}
 use native.Mathlib.Omega.{arith}
 use Prim.Native.Nat.{_-_, _≤_}
-use Rattle.job.specs.Refusals.{most-processes}
 use Rattle.job.specs.Job.{job-of}
 use Rattle.run.proofs.Places.{LinedUp, lined-first, lined-next, lined-all}
 use Rattle.run.proofs.line_up.Statement.{statement}
@@ -39,11 +38,9 @@ loop-less : tie.Need-loop-less Inv-loop μ-loop
 loop-less c = search needs
 
 loop-again : tie.Need-loop-again Inv-loop μ-loop
-unfolding most-processes
 loop-again c = (search needs, lined-next _ _ _ _ (omega arith) (c .before .before .loop .inv .1) (c .place-after2 .ensures))
 
 returns : tie.Need-returns Inv-loop μ-loop
-unfolding most-processes
 returns c = lined-all _ _ (omega arith) (c .before .loop .inv .1)
 
 pub line-up-spec : {M : Type 1} → statement M

@@ -4,7 +4,6 @@ use borrow.Author.Needs.{needs}
 use native.Mathlib.Omega.{arith}
 use mathlib.Core.Path.{refl, sym, _∙_}
 use Prim.Native.Nat.{_-_}
-use Rattle.job.specs.Refusals.{most-operations, most-steps}
 use Rattle.run.proofs.Places.{eight-kept, each-rests}
 use Rattle.run.proofs.Turned.{followed-ended, followed-going}
 use Rattle.run.proofs.Loop.{Turning, later, goes, entry-byte, byte-in-range, ran-at-start, turning-rests, makes, turning-acts, finished}
@@ -23,22 +22,18 @@ line-up-requires : tie.Need-line-up-requires Inv-loop μ-loop
 line-up-requires c κs = goes (c .before .before .before .before .before .before .before .before .before .before .pre .0) 0 (search needs)
 
 mul-entries : tie.Need-mul-entries Inv-loop μ-loop
-unfolding most-operations most-steps
 mul-entries c = omega (arith, c .before .before .before .before .before .before .before .before .before .before .before .before .pre .0 .few, c .before .before .before .before .before .before .before .before .before .before .before .before .pre .0 .short)
 
 add-entries : tie.Need-add-entries Inv-loop μ-loop
-unfolding most-operations most-steps
 add-entries c = omega (arith, c .before .before .before .before .before .before .before .before .before .before .before .before .pre .0 .few, c .before .before .before .before .before .before .before .before .before .before .before .before .pre .0 .short)
 
 loop-holds : tie.Need-loop-holds Inv-loop μ-loop
 loop-holds c = record { small = search needs; in-place = c .before .line-up .ensures; ran = ran-at-start _ (c .fresh .ensures .0) (c .fresh .ensures .1) (c .fresh .ensures .2) (c .before .before .before .before .before .before .before .before .before .before .before .before .pre .1 .1); lengths = record { of-next = refl; of-mark = refl; of-first = refl; of-last = refl; of-start = refl; of-link = refl; of-taken = refl; of-stands = refl; of-by = refl } }
 
 cast-p : tie.Need-cast-p Inv-loop μ-loop
-unfolding most-operations most-steps
 cast-p c = omega (arith, c .before .before .before .before .before .before .before .before .before .before .before .before .before .before .pre .0 .few, c .before .before .before .before .before .before .before .before .before .before .before .before .before .before .pre .0 .short, c .loop-test .taken)
 
 add-p : tie.Need-add-p Inv-loop μ-loop
-unfolding most-operations most-steps
 add-p c = omega (arith, c .before .before .before .before .before .before .before .before .before .before .before .before .before .before .pre .0 .few, c .before .before .before .before .before .before .before .before .before .before .before .before .before .before .pre .0 .short, c .loop-test .taken)
 
 shared-slice-read-p : tie.Need-shared-slice-read-p Inv-loop μ-loop
@@ -66,19 +61,15 @@ element-set-from-after-2 : tie.Need-element-set-from-after-2 Inv-loop μ-loop
 element-set-from-after-2 c = byte-in-range (c .before .before .before .before .before .before .before .before .before .before .before .before .before .before .before .before .before .before .before .before .before .before .before .before .before .before .before .before .before .before .before .before .before .before .before .before .before .before .before .before .before .before .before .before .before .before .before .before .before .before .pre .0) _ (c .before .before .before .before .before .before .before .before .before .before .before .before .before .before .before .before .before .before .before .before .before .before .before .before .before .before .before .before .before .before .before .before .before .before .before .before .loop-test .taken)
 
 add-k : tie.Need-add-k Inv-loop μ-loop
-unfolding most-steps
 add-k c = omega (arith, c .before .before .before .before .before .before .before .before .before .before .before .before .before .before .before .before .before .pre .0 .short, c .before .before .before .loop-test .taken)
 
 loop-less : tie.Need-loop-less Inv-loop μ-loop
-unfolding most-steps
 loop-less c = omega (arith, c .before .before .before .before .before .before .before .before .before .before .before .before .before .before .before .before .before .before .before .pre .0 .short, c .before .before .before .before .before .loop-test .taken)
 
 loop-less-2 : tie.Need-loop-less-2 Inv-loop μ-loop
-unfolding most-steps
 loop-less-2 c = omega (arith, c .before .before .before .before .before .before .before .before .before .before .before .before .before .before .before .before .before .before .before .before .before .before .before .before .before .before .before .before .before .before .before .before .before .before .before .before .before .before .before .before .before .before .before .before .before .before .before .before .before .before .before .before .pre .0 .short, c .before .before .before .before .before .before .before .before .before .before .before .before .before .before .before .before .before .before .before .before .before .before .before .before .before .before .before .before .before .before .before .before .before .before .before .before .before .before .loop-test .taken)
 
 loop-less-3 : tie.Need-loop-less-3 Inv-loop μ-loop
-unfolding most-steps
 loop-less-3 c = omega (arith, c .before .before .before .before .before .before .before .before .before .before .before .before .before .before .before .before .before .before .before .before .before .before .before .before .before .before .before .before .before .before .before .before .before .before .before .before .before .before .before .before .before .before .before .before .before .before .before .before .before .before .pre .0 .short, c .before .before .before .before .before .before .before .before .before .before .before .before .before .before .before .before .before .before .before .before .before .before .before .before .before .before .before .before .before .before .before .before .before .before .before .before .loop-test .taken)
 
 loop-again : tie.Need-loop-again Inv-loop μ-loop
