@@ -9,9 +9,10 @@ use Rattle.basics.specs.Choice.{less}
 use Rattle.basics.specs.Maps.{at}
 use Rattle.basics.specs.Words.{word}
 use Rattle.block.specs.Block.{payload-size}
+use Rattle.job.specs.declared.Limits.{Limits}
 use Rattle.job.specs.Kind.{kind-of, is-missing}
 use Rattle.job.specs.Stream.{kind, processes, operations, schedule-length, record-at, process, action, value, scheduled, stream-length}
-use Rattle.job.specs.Refusals.{any, outside, most-processes, most-operations, most-steps, exact-count, bad-kind, bad-processes, bad-operations, bad-schedule-length, bad-record, bad-records, bad-entry, bad-schedule}
+use Rattle.job.specs.Refusals.{any, outside, exact-count, bad-kind, bad-processes, bad-operations, bad-schedule-length, bad-record, bad-records, bad-entry, bad-schedule}
 use Rattle.job.proofs.Accepted.{Fine}
 
 any-alike : (f g : ℕ → Bool) (i n : ℕ) → ((j : ℕ) → i ≤ j → j < i + n → f j ≡ g j) → any f i n ≡ any g i n
@@ -66,14 +67,14 @@ module _ {s t : List ℕ} (a : Alike s t) where
       let step : scheduled s k ≡ scheduled t k = a .byte (5 + 4 * operations s + k) (omega arith) ∙ ap (λ (n : ℕ). at t (5 + 4 * n + k)) operations-alike in
       ap₂ (λ (x p : ℕ). not (less x p)) step processes-alike
 
-  pub fine-alike : Fine s → Fine t
+  pub fine-alike : {l : Limits} → Fine l s → Fine l t
   unfolding bad-kind bad-processes bad-operations bad-schedule-length bad-records bad-schedule
-  fine-alike f =
+  fine-alike {l} f =
       record {
         kind = ap (λ (n : ℕ). is-missing (kind-of n)) (sym kind-alike) ∙ f .kind;
-        processes = ap (outside 1 most-processes) (sym processes-alike) ∙ f .processes;
-        operations = ap (outside 1 most-operations) (sym operations-alike) ∙ f .operations;
-        steps = ap (less most-steps) (sym schedule-length-alike) ∙ f .steps;
+        processes = ap (outside 1 (l .processes)) (sym processes-alike) ∙ f .processes;
+        operations = ap (outside 1 (l .operations)) (sym operations-alike) ∙ f .operations;
+        steps = ap (less (l .steps)) (sym schedule-length-alike) ∙ f .steps;
         records = ap (any (bad-record t) 1) (sym operations-alike) ∙ sym (any-alike (bad-record s) (bad-record t) 1 (operations s) record-alike) ∙ f .records;
         schedule = ap (any (bad-entry t) 1) (sym schedule-length-alike) ∙ sym (any-alike (bad-entry s) (bad-entry t) 1 (schedule-length s) entry-alike) ∙ f .schedule;
       }

@@ -8,6 +8,8 @@ pub mod Accepted
 pub mod Padded
 pub mod Pieces
 pub mod Alike
+pub mod View
+pub mod Ready
 pub mod Written
 pub mod Restored
 pub mod OneFile

@@ -5,20 +5,21 @@ use Prim.Native.Nat.{ℕ, zero, suc, _+_, _-_, _*_, _/_, _%_, _≤_, _<_}
 use native.Mathlib.Omega.{arith}
 use mathlib.Core.Bool.{true, false}
 use mathlib.Core.List.{List}
-use lib.ListN.{length, drop}
+use lib.ListN.{length}
 use lib.Seq.{ext-getD}
 use Rattle.basics.specs.Bytes.{Bytes}
 use Rattle.basics.specs.Choice.{less}
 use Rattle.basics.specs.Maps.{at}
-use Rattle.basics.proofs.Bytes.{bytes-none, bytes-append, bytes-take, bytes-drop}
 use Rattle.basics.proofs.Choice.{both, less-lt, less-le}
 use Rattle.basics.proofs.Words.{word-parts}
-use Rattle.block.specs.Block.{block-size, payload-size, payload-of}
+use Rattle.job.specs.declared.Limits.{Limits}
+use Rattle.job.specs.Limits.{Sound}
 use Rattle.job.specs.Stream.{kind, processes, operations, schedule-length, record-at, process, action, value, scheduled, stream-length}
-use Rattle.job.specs.File.{block-at, block-count, payloads, joined, file-of, file-refusal, stream-of}
+use Rattle.job.specs.File.{file-of, file-refusal, stream-of}
 use Rattle.job.specs.RoundTrip.{Same-job}
 use Rattle.job.proofs.Accepted.{accepted-good}
-use Rattle.job.proofs.Restored.{stream-good, restored-file}
+use Rattle.job.proofs.Restored.{restored-file}
+use Rattle.job.proofs.View.{stream-bytes, stream-good}
 
 -- a byte of the stream stands in the header, in a record or in the schedule
 module _ (s t : List ℕ) (h : Bytes s) (k : Bytes t) (j : Same-job s t) where
@@ -67,23 +68,10 @@ module _ (s t : List ℕ) (h : Bytes s) (k : Bytes t) (j : Same-job s t) where
   same-stream p q =
       ext-getD 0 s t (p ∙ ap₂ (λ (n l : ℕ). 6 + 4 * n + l) (j .operation-counts) (j .step-counts) ∙ sym q) (λ i b. each-byte i (omega arith))
 
--- the stream in a file is bytes, as the file is
-payloads-bytes : (file : List ℕ) (i n : ℕ) → Bytes file → Bytes (payloads file i n)
-unfolding payloads payload-of block-at
-payloads-bytes file i zero h = bytes-none
-payloads-bytes file i (suc n) h =
-    bytes-append (payload-of (block-at file i)) (payloads file (suc i) n)
-    (bytes-take payload-size (drop 2 (block-at file i)) (bytes-drop 2 (block-at file i) (bytes-take block-size (drop (block-size * i) file) (bytes-drop (block-size * i) file h))))
-    (payloads-bytes file (suc i) n h)
-
-stream-bytes : (file : List ℕ) → Bytes file → Bytes (stream-of file)
-unfolding stream-of joined
-stream-bytes file h = bytes-take (stream-length (joined file)) (joined file) (payloads-bytes file 0 (block-count file) h)
-
-pub one-job-one-file : (f g : List ℕ) → Bytes f → Bytes g → file-refusal f ≡ 0 → file-refusal g ≡ 0 → Same-job (stream-of f) (stream-of g) → f ≡ g
-one-job-one-file f g h k p q j =
+pub one-job-one-file : (l : Limits) → Sound l → (f g : List ℕ) → Bytes f → Bytes g → file-refusal l f ≡ 0 → file-refusal l g ≡ 0 → Same-job (stream-of f) (stream-of g) → f ≡ g
+one-job-one-file l sound f g h k p q j =
     let streams : stream-of f ≡ stream-of g =
     same-stream (stream-of f) (stream-of g) (stream-bytes f h) (stream-bytes g k) j
-    (stream-good f (accepted-good f p) .size) (stream-good g (accepted-good g q) .size)
+    (stream-good f (accepted-good l f p) .size) (stream-good g (accepted-good l g q) .size)
     in
-    sym (restored-file f h p) ∙ ap file-of streams ∙ restored-file g k q
+    sym (restored-file l f p sound h) ∙ ap file-of streams ∙ restored-file l g q sound k

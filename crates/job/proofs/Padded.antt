@@ -13,9 +13,11 @@ use Rattle.block.specs.Block.{block-size, payload-size, block}
 use Rattle.block.specs.Checked.{filled}
 use Rattle.block.proofs.Accepted.{length-block}
 use Rattle.block.proofs.Sizes.{length-filled}
+use Rattle.job.specs.declared.Limits.{Limits}
+use Rattle.job.specs.Limits.{most-stream, Sound}
 use Rattle.job.specs.Stream.{operations, schedule-length, stream-length}
-use Rattle.job.specs.Refusals.{exact-count, outside, most-operations, most-steps, bad-operations, bad-schedule-length}
-use Rattle.job.specs.File.{most-blocks, zeros, blocks, padded, file-of}
+use Rattle.job.specs.Refusals.{exact-count, outside, bad-operations, bad-schedule-length}
+use Rattle.job.specs.File.{zeros, blocks, padded, file-of}
 use Rattle.job.proofs.Accepted.{Fine}
 use Rattle.job.proofs.Conditions.{or-both, next-left, none-left}
 use Rattle.job.proofs.Table.{exact-room}
@@ -59,13 +61,17 @@ module _ (s : List ℕ) {i n : ℕ} where
   unfolding blocks
   blocks-end h = simp (none-left h)
 
+-- the numbers of operations and steps of a stream in range
+pub fine-counts : {l : Limits} {s : List ℕ} → Fine l s → (operations s ≤ l .operations) × (schedule-length s ≤ l .steps)
+unfolding bad-operations bad-schedule-length outside
+fine-counts {l} {s} f = (less-le (or-both (less (operations s) 1) (less (l .operations) (operations s)) (f .operations) .1), less-le (f .steps))
+
 -- a stream in range wants no more blocks than a file may have
-pub fine-small : (s : List ℕ) → Fine s → exact-count s ≤ most-blocks
-unfolding exact-count stream-length payload-size most-blocks bad-operations bad-schedule-length outside most-operations most-steps
-fine-small s f =
-    let n : operations s ≤ most-operations = less-le (or-both (less (operations s) 1) (less most-operations (operations s)) (f .operations) .1) in
-    let k : schedule-length s ≤ most-steps = less-le (f .steps) in
-    omega arith
+pub fine-small : {l : Limits} → Sound l → (s : List ℕ) → Fine l s → exact-count s ≤ l .blocks
+unfolding exact-count stream-length payload-size most-stream
+fine-small {l} sound s f =
+    let fits : 6 + 4 * l .operations + l .steps ≤ most-stream l = sound .stream-fits in
+    omega (arith, fine-counts f)
 
 -- the blocks are pieces of one length
 pub blocks-are : (s : List ℕ) (i n : ℕ) → blocks s i n ≡ pieces (λ j. block j (take payload-size (drop (payload-size * j) s))) i n

@@ -3,13 +3,14 @@ use Prim.Native.Nat.{ℕ, _+_, _*_, _≤_, _<_}
 use native.Mathlib.Omega.{arith}
 use mathlib.Core.List.{List}
 use Rattle.block.specs.Block.{payload-size}
+use Rattle.job.specs.declared.Limits.{Limits}
 use Rattle.job.specs.Stream.{stream-length}
 use Rattle.job.specs.Refusals.{exact-count, header-conditions, list-conditions}
 use Rattle.job.proofs.Conditions.{Numbered}
 
-pub header-numbered : (s : List ℕ) → Numbered (header-conditions s)
+pub header-numbered : (l : Limits) (s : List ℕ) → Numbered (header-conditions l s)
 unfolding header-conditions
-header-numbered s = (omega arith, (omega arith, (omega arith, (omega arith, tt))))
+header-numbered l s = (omega arith, (omega arith, (omega arith, (omega arith, tt))))
 
 pub lists-numbered : (s : List ℕ) → Numbered (list-conditions s)
 unfolding list-conditions

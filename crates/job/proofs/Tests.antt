@@ -1,18 +1,19 @@
 -- What the tests of the code say of the conditions of a stream. Assumes nothing.
 use mathlib.Core.Path.{_≡_, sym, ap, _∙_}
 use mathlib.Core.Logic.{_≢_}
-use Prim.Native.Nat.{ℕ, _+_, _-_, _*_, _≤_, _<_}
+use Prim.Native.Nat.{ℕ, _+_, _-_, _≤_, _<_}
 use native.Mathlib.Omega.{arith}
 use mathlib.Core.Bool.{Bool, true, false, not, or-true}
-use mathlib.Core.List.{List}
-use lib.Dec.{eqb}
-use lib.ListN.{length, getD}
-use Rattle.basics.specs.Choice.{same}
-use Rattle.basics.specs.Maps.{at}
-use Rattle.basics.specs.Words.{word}
-use Rattle.basics.proofs.Choice.{lt-less, le-less, unequal-same}
-use Rattle.job.specs.Stream.{operations, process, processes, action, value, record-at, scheduled, stream-length}
-use Rattle.job.specs.Refusals.{any, outside, bad-record, bad-entry}
+use mathlib.Core.List.{List, [], _∷_}
+use lib.ListN.{length}
+use Rattle.basics.specs.Choice.{same, less}
+use Rattle.basics.proofs.Choice.{lt-less, le-less, equal-same, unequal-same}
+use Rattle.job.specs.declared.Limits.{Limits}
+use Rattle.job.specs.declared.Lookup.{Lookup}
+use Rattle.job.specs.Kind.{kind-of, is-missing}
+use Rattle.job.specs.Stream.{kind, operations, schedule-length, process, processes, action, value, scheduled, stream-length}
+use Rattle.job.specs.Refusals.{first-met, any, outside, bad-kind, bad-processes, bad-operations, bad-schedule-length, header-conditions, bad-record, bad-entry}
+use Rattle.job.proofs.Conditions.{met-here, met-later, met-none}
 
 -- a stream that is all there has its six bytes of header
 pub header-there : (s : List ℕ) → stream-length s ≤ length s → 6 ≤ length s
@@ -23,29 +24,70 @@ header-there s h = omega arith
 pub any-from-one : (f : ℕ → Bool) {r n : ℕ} → r ≡ n → any f 1 (r + 1 - 1) ≡ any f 1 n
 any-from-one f {r} {n} e = ap (any f 1) (let p : r + 1 - 1 ≡ n = omega arith in p)
 
-module _ (s : List ℕ) (o : ℕ) where
-  pub process-met : getD s 1 0 ≤ getD s (2 + 4 * o) 0 → true ≡ bad-record s o
-  unfolding bad-record process processes record-at at
-  process-met h = simp (le-less h)
+-- the header, by what the code reads of it: which condition decides
+module _ (l : Limits) (s : List ℕ) {k : Lookup} (kinds : k ≡ kind-of (kind s)) where
+  pub kind-decides : is-missing k ≡ true → 5 ≡ first-met (header-conditions l s)
+  unfolding header-conditions bad-kind
+  kind-decides e = met-here 5 _ (ap is-missing (sym kinds) ∙ e)
 
-  pub action-met : {r : Bool} → r ≡ outside 1 2 (getD s (2 + 4 * o + 1) 0) → r ≡ true → true ≡ bad-record s o
-  unfolding bad-record action record-at at
-  action-met e h = simp (sym e ∙ h, or-true)
+  module _ (found : is-missing k ≡ false) {p : ℕ} {b : Bool} (counts : p ≡ processes s) (tests : b ≡ outside 1 (l .processes) p) where
+    past-kind : {r : ℕ} → r ≡ first-met ((6, bad-processes l s) ∷ (7, bad-operations l s) ∷ (8, bad-schedule-length l s) ∷ []) → r ≡ first-met (header-conditions l s)
+    unfolding header-conditions bad-kind
+    past-kind later = met-later 5 _ (ap is-missing (sym kinds) ∙ found) later
 
-  module _ {r : Bool} (p : getD s (2 + 4 * o) 0 < getD s 1 0) (e : r ≡ outside 1 2 (getD s (2 + 4 * o + 1) 0)) (h : r ≡ false) where
-    pub take-value : {w : ℕ} → getD s (2 + 4 * o + 1) 0 ≡ 2 → w ≡ word s (2 + 4 * o + 2) → not (eqb w 0) ≡ bad-record s o
-    unfolding bad-record process processes action value record-at at same
-    take-value a v = simp (lt-less p, a, ap (outside 1 2) (sym a) ∙ sym e ∙ h, v)
+    of-processes : bad-processes l s ≡ b
+    unfolding bad-processes
+    of-processes = ap (outside 1 (l .processes)) (sym counts) ∙ sym tests
 
-    pub put-value : getD s (2 + 4 * o + 1) 0 ≢ 2 → false ≡ bad-record s o
-    unfolding bad-record process processes action value record-at at
-    put-value a = simp (lt-less p, sym e ∙ h, unequal-same a)
+    pub processes-decide : b ≡ true → 6 ≡ first-met (header-conditions l s)
+    processes-decide e = past-kind (met-here 6 _ (of-processes ∙ e))
 
-module _ (s : List ℕ) (k : ℕ) {r : ℕ} (n : r ≡ operations s) where
-  pub entry-met : getD s 1 0 ≤ getD s (5 + 4 * r + k) 0 → bad-entry s k ≡ true
-  unfolding bad-entry scheduled processes at
-  entry-met h = simp (← n, le-less h)
+    module _ (in-range : b ≡ false) {n : ℕ} {b′ : Bool} (counts′ : n ≡ operations s) (tests′ : b′ ≡ outside 1 (l .operations) n) where
+      of-operations : bad-operations l s ≡ b′
+      unfolding bad-operations
+      of-operations = ap (outside 1 (l .operations)) (sym counts′) ∙ sym tests′
 
-  pub entry-passed : getD s (5 + 4 * r + k) 0 < getD s 1 0 → bad-entry s k ≡ false
-  unfolding bad-entry scheduled processes at
-  entry-passed h = simp (← n, lt-less h)
+      pub operations-decide : b′ ≡ true → 7 ≡ first-met (header-conditions l s)
+      operations-decide e = past-kind (met-later 6 _ (of-processes ∙ in-range) (met-here 7 _ (of-operations ∙ e)))
+
+      module _ (in-range′ : b′ ≡ false) {m : ℕ} (steps : m ≡ schedule-length s) where
+        past-operations : {r : ℕ} → r ≡ first-met ((8, bad-schedule-length l s) ∷ []) → r ≡ first-met (header-conditions l s)
+        past-operations later = past-kind (met-later 6 _ (of-processes ∙ in-range) (met-later 7 _ (of-operations ∙ in-range′) later))
+
+        pub steps-decide : l .steps < m → 8 ≡ first-met (header-conditions l s)
+        unfolding bad-schedule-length
+        steps-decide h = past-operations (met-here 8 _ (ap (less (l .steps)) (sym steps) ∙ lt-less h))
+
+        pub none-decides : m ≤ l .steps → 0 ≡ first-met (header-conditions l s)
+        unfolding bad-schedule-length
+        none-decides h = past-operations (met-later 8 _ (ap (less (l .steps)) (sym steps) ∙ le-less h) met-none)
+
+-- a record likewise
+module _ (s : List ℕ) (o : ℕ) {p n : ℕ} (own : p ≡ process s o) (all : n ≡ processes s) where
+  pub process-met : n ≤ p → true ≡ bad-record s o
+  unfolding bad-record
+  process-met h = simp (← own, ← all, le-less h)
+
+  module _ (h : p < n) {a : ℕ} (act : a ≡ action s o) {r : Bool} (e : r ≡ outside 1 2 a) where
+    pub action-met : r ≡ true → true ≡ bad-record s o
+    unfolding bad-record
+    action-met met = simp (← act, sym e ∙ met, or-true)
+
+    module _ (inside : r ≡ false) where
+      pub take-value : {v : ℕ} → a ≡ 2 → v ≡ value s o → not (same v 0) ≡ bad-record s o
+      unfolding bad-record
+      take-value two is = simp (← own, ← all, lt-less h, ← act, sym e ∙ inside, equal-same two, ← is)
+
+      pub put-value : a ≢ 2 → false ≡ bad-record s o
+      unfolding bad-record
+      put-value other = simp (← own, ← all, lt-less h, ← act, sym e ∙ inside, unequal-same other)
+
+-- an entry of the schedule likewise
+module _ (s : List ℕ) (k : ℕ) {p n : ℕ} (own : p ≡ scheduled s k) (all : n ≡ processes s) where
+  pub entry-met : n ≤ p → bad-entry s k ≡ true
+  unfolding bad-entry
+  entry-met h = simp (← own, ← all, le-less h)
+
+  pub entry-passed : p < n → bad-entry s k ≡ false
+  unfolding bad-entry
+  entry-passed h = simp (← own, ← all, lt-less h)

@@ -11,9 +11,11 @@ use Rattle.basics.specs.Maps.{at}
 use Rattle.basics.proofs.Choice.{equal-same, le-less, pick-true, pick-false}
 use Rattle.block.specs.Block.{block-size, payload-size, block, payload-of, block-refusal}
 use Rattle.block.proofs.Accepted.{made-accepted, made-payload}
+use Rattle.job.specs.declared.Limits.{Limits}
+use Rattle.job.specs.Limits.{most-stream, Sound}
 use Rattle.job.specs.Stream.{stream-length}
 use Rattle.job.specs.Refusals.{exact-count, bad-padding}
-use Rattle.job.specs.File.{most-blocks, most-stream, zeros, block-at, block-count, payloads, joined, blocks, padded, file-of, blocks-refusal, file-refusal, stream-of}
+use Rattle.job.specs.File.{zeros, block-at, block-count, payloads, joined, blocks, padded, file-of, blocks-refusal, file-refusal, stream-of}
 use Rattle.job.specs.Calls.{small-work, read-number, read-length, held, read-work, write-number}
 use Rattle.job.specs.RoundTrip.{Read-back}
 use Rattle.job.proofs.Accepted.{Fine, Good-file, Good-stream, good-accepted, written-good}
@@ -86,48 +88,49 @@ module _ (s : List ℕ) (size : length s ≡ stream-length s) where
         all-accepted (file-of s) 0 n
         (λ j a b. ap (block-refusal j) (block-is j (omega arith)) ∙ made-accepted j (own j) (omega arith) (length-own-payload (padded s) n j whole-stream (omega arith)))
 
-written-file-good : (s : List ℕ) → Good-stream s → Good-file (file-of s)
-unfolding stream-length payload-size block-size most-blocks
-written-file-good s g =
-    let size : length s ≡ stream-length s = g .size in
-    let n : ℕ = exact-count s in
-    let few : n ≤ most-blocks = fine-small s (g .fine) in
-    let count : block-count (file-of s) ≡ n = count-is s size n refl in
-    let joins : joined (file-of s) ≡ padded s = joined-is s size n refl in
-    record {
-      sized =
-          record {
-            least = omega (arith, exact-room s);
-            most = omega arith;
-            whole = length-file-of s size ∙ ap (λ (k : ℕ). block-size * k) (sym count);
-          };
-      blocks = ap (blocks-refusal (file-of s) 0) count ∙ blocks-good s size n refl (omega arith);
-      fine = subst Fine (sym joins) (fine-alike (padded-alike s size) (g .fine));
-      count = count ∙ exact-count-alike (padded-alike s size) ∙ ap exact-count (sym joins);
-      padding = ap bad-padding joins ∙ padded-clean s size;
-    }
+module _ {l : Limits} (sound : Sound l) where
+  written-file-good : (s : List ℕ) → Good-stream l s → Good-file l (file-of s)
+  unfolding stream-length payload-size block-size
+  written-file-good s g =
+      let size : length s ≡ stream-length s = g .size in
+      let n : ℕ = exact-count s in
+      let few : n ≤ l .blocks = fine-small sound s (g .fine) in
+      let count : block-count (file-of s) ≡ n = count-is s size n refl in
+      let joins : joined (file-of s) ≡ padded s = joined-is s size n refl in
+      record {
+        sized =
+            record {
+              least = omega (arith, exact-room s);
+              most = omega arith;
+              whole = length-file-of s size ∙ ap (λ (k : ℕ). block-size * k) (sym count);
+            };
+        blocks = ap (blocks-refusal (file-of s) 0) count ∙ blocks-good s size n refl (omega (arith, sound .blocks-fit));
+        fine = subst (Fine l) (sym joins) (fine-alike (padded-alike s size) (g .fine));
+        count = count ∙ exact-count-alike (padded-alike s size) ∙ ap exact-count (sym joins);
+        padding = ap bad-padding joins ∙ padded-clean s size;
+      }
 
--- for every stream that the writer takes, its file is accepted
-written-accepted : (s out : List ℕ) → write-number s out ≡ 0 → file-refusal (file-of s) ≡ 0
-written-accepted s out z = good-accepted (file-of s) (written-file-good s (written-good s out z .1))
+  -- for every stream that the writer takes, its file is accepted
+  written-accepted : (s out : List ℕ) → write-number l s out ≡ 0 → file-refusal l (file-of s) ≡ 0
+  written-accepted s out z = good-accepted l (file-of s) (written-file-good s (written-good l s out z .1))
 
--- and holds that stream
-written-stream : (s out : List ℕ) → write-number s out ≡ 0 → stream-of (file-of s) ≡ s
-unfolding stream-of
-written-stream s out z =
-    let size : length s ≡ stream-length s = written-good s out z .1 .size in
-    ap (λ (l : List ℕ). take (stream-length l) l) (joined-is s size (exact-count s) refl) ∙ padded-stream s size
+  -- and holds that stream
+  written-stream : (s out : List ℕ) → write-number l s out ≡ 0 → stream-of (file-of s) ≡ s
+  unfolding stream-of
+  written-stream s out z =
+      let size : length s ≡ stream-length s = written-good l s out z .1 .size in
+      ap (λ (l : List ℕ). take (stream-length l) l) (joined-is s size (exact-count s) refl) ∙ padded-stream s size
 
--- in the words of the calls
-pub read-what-is-written : (s out work : List ℕ) → write-number s out ≡ 0 → most-stream ≤ length work → Read-back s work
-unfolding read-number read-length read-work small-work
-read-what-is-written s out work z room =
-    let large : less (length work) most-stream ≡ false = le-less room in
-    let accepted : file-refusal (file-of s) ≡ 0 = written-accepted s out z in
-    let zero : same (file-refusal (file-of s)) 0 ≡ true = equal-same accepted in
-    let number : read-number (file-of s) work ≡ 0 = simp (large, pick-false) accepted in
-    record {
-      number = number;
-      size = simp (large, pick-false, zero, pick-true) (ap length (written-stream s out z));
-      left = simp (large, pick-false, zero, pick-true) (ap (λ (x : List ℕ). held x work) (written-stream s out z));
-    }
+  -- in the words of the calls
+  pub read-what-is-written : (s out work : List ℕ) → write-number l s out ≡ 0 → most-stream l ≤ length work → Read-back l s work
+  unfolding read-number read-length read-work small-work
+  read-what-is-written s out work z room =
+      let large : less (length work) (most-stream l) ≡ false = le-less room in
+      let accepted : file-refusal l (file-of s) ≡ 0 = written-accepted s out z in
+      let zero : same (file-refusal l (file-of s)) 0 ≡ true = equal-same accepted in
+      let number : read-number l (file-of s) work ≡ 0 = simp (large, pick-false) accepted in
+      record {
+        number = number;
+        size = simp (large, pick-false, zero, pick-true) (ap length (written-stream s out z));
+        left = simp (large, pick-false, zero, pick-true) (ap (λ (x : List ℕ). held l x work) (written-stream s out z));
+      }

@@ -6,20 +6,10 @@ use mathlib.Core.List.{List, [], _∷_, _++_}
 use lib.ListN.{length, take, drop, replicate}
 use Rattle.basics.specs.Choice.{pick, same, less}
 use Rattle.block.specs.Block.{block-size, payload-size, block, payload-of, block-refusal}
+use Rattle.job.specs.declared.Limits.{Limits}
+use Rattle.job.specs.Limits.{most-file, most-stream}
 use Rattle.job.specs.Stream.{stream-length}
 use Rattle.job.specs.Refusals.{first-met, exact-count, header-conditions, list-conditions, bad-padding}
-
--- "35 at most"
-unfoldable pub most-blocks : ℕ
-most-blocks = 35
-
--- the length of the longest file, 17,920 bytes
-unfoldable pub most-file : ℕ
-most-file = most-blocks * block-size
-
--- the length of the longest joined stream, 17,710 bytes: what a read and a replay need as work memory
-unfoldable pub most-stream : ℕ
-most-stream = most-blocks * payload-size
 
 -- so many zeros
 unfoldable pub zeros : ℕ → List ℕ
@@ -56,8 +46,8 @@ unfoldable pub file-of : List ℕ → List ℕ
 file-of s = blocks (padded s) 0 (exact-count s)
 
 -- number 2: "file length | 0, over 17,920, or not a multiple of 512"
-unfoldable pub bad-length : List ℕ → Bool
-bad-length file = same (length file) 0 || less most-file (length file) || not (same (length file % block-size) 0)
+unfoldable pub bad-length : Limits → List ℕ → Bool
+bad-length l file = same (length file) 0 || less (most-file l) (length file) || not (same (length file % block-size) 0)
 
 -- "block, ascending | 3"; "same block, next | 4": the refusal of the first refused block of `count` from position `i` up, 0 if none is
 unfoldable pub blocks-refusal : List ℕ → ℕ → ℕ → ℕ
@@ -72,18 +62,26 @@ unfoldable pub bad-count : List ℕ → Bool
 bad-count file = not (same (block-count file) (exact-count (joined file)))
 
 -- the numbers 5 to 12, of a file whose blocks give their payloads
-unfoldable pub stream-refusal : List ℕ → ℕ
-stream-refusal file =
+unfoldable pub stream-refusal : Limits → List ℕ → ℕ
+stream-refusal l file =
     let s : List ℕ = joined file in
-    first-met (header-conditions s ++ (9, bad-count file) ∷ list-conditions s ++ (12, bad-padding s) ∷ [])
+    first-met (header-conditions l s ++ (9, bad-count file) ∷ list-conditions s ++ (12, bad-padding s) ∷ [])
 
 -- the numbers 2 to 12, of a file; 0 where it is accepted
-unfoldable pub file-refusal : List ℕ → ℕ
-file-refusal file =
+unfoldable pub file-refusal : Limits → List ℕ → ℕ
+file-refusal l file =
     let of-blocks : ℕ = blocks-refusal file 0 (block-count file) in
-    let of-stream : ℕ = stream-refusal file in
-    pick (bad-length file) 2 (pick (same of-blocks 0) of-stream of-blocks)
+    let of-stream : ℕ = stream-refusal l file in
+    pick (bad-length l file) 2 (pick (same of-blocks 0) of-stream of-blocks)
 
 -- the stream in an accepted file, without padding
 unfoldable pub stream-of : List ℕ → List ℕ
 stream-of file = take (stream-length (joined file)) (joined file)
+
+-- some bytes "followed by zeros", up to the length of the longest stream
+unfoldable pub zeros-behind : Limits → List ℕ → List ℕ
+zeros-behind l s = s ++ zeros (most-stream l - length s)
+
+-- the stream in an accepted file, followed by zeros
+unfoldable pub zero-filled : Limits → List ℕ → List ℕ
+zero-filled l file = zeros-behind l (stream-of file)

@@ -1,4 +1,5 @@
--- Document 01, "Where a job is turned back": each number's condition, for a stream that may have padding behind it.
+-- Document 01, "Where a job is turned back": each number's condition, for a stream that may have padding behind it. What is out of
+-- range depends on the limits of a profile.
 -- "The first condition met in this order decides; a job meeting none is accepted."
 use Prim.Native.Nat.{ℕ, zero, suc, _+_, _-_, _/_}
 use mathlib.Core.Bool.{Bool, false, not, _||_, _&&_}
@@ -7,18 +8,9 @@ use lib.ListN.{length}
 use Rattle.basics.specs.Choice.{pick, same, less}
 use Rattle.basics.specs.Maps.{at}
 use Rattle.block.specs.Block.{payload-size}
+use Rattle.job.specs.declared.Limits.{Limits}
 use Rattle.job.specs.Kind.{kind-of, is-missing}
 use Rattle.job.specs.Stream.{kind, processes, operations, schedule-length, process, action, value, scheduled, stream-length}
-
--- the limits of a job: P 8, N 256, S 16,384
-unfoldable pub most-processes : ℕ
-most-processes = 8
-
-unfoldable pub most-operations : ℕ
-most-operations = 256
-
-unfoldable pub most-steps : ℕ
-most-steps = 16384
 
 -- the number of the first condition met in a list of conditions, and 0 where none is met
 unfoldable pub first-met : List (ℕ × Bool) → ℕ
@@ -41,16 +33,16 @@ unfoldable pub bad-kind : List ℕ → Bool
 bad-kind s = is-missing (kind-of (kind s))
 
 -- number 6: P out of range
-unfoldable pub bad-processes : List ℕ → Bool
-bad-processes s = outside 1 most-processes (processes s)
+unfoldable pub bad-processes : Limits → List ℕ → Bool
+bad-processes l s = outside 1 (l .processes) (processes s)
 
 -- number 7: N out of range
-unfoldable pub bad-operations : List ℕ → Bool
-bad-operations s = outside 1 most-operations (operations s)
+unfoldable pub bad-operations : Limits → List ℕ → Bool
+bad-operations l s = outside 1 (l .operations) (operations s)
 
 -- number 8: S out of range
-unfoldable pub bad-schedule-length : List ℕ → Bool
-bad-schedule-length s = less most-steps (schedule-length s)
+unfoldable pub bad-schedule-length : Limits → List ℕ → Bool
+bad-schedule-length l s = less (l .steps) (schedule-length s)
 
 -- "blocks exactly L / 506 rounded up"
 unfoldable pub exact-count : List ℕ → ℕ
@@ -78,8 +70,8 @@ unfoldable pub bad-padding : List ℕ → Bool
 bad-padding s = any (λ i. not (same (at s i) 0)) (stream-length s) (length s - stream-length s)
 
 -- "header | 5, 6, 7, 8 | kind, P, N, S out of range, in that order"
-unfoldable pub header-conditions : List ℕ → List (ℕ × Bool)
-header-conditions s = (5, bad-kind s) ∷ (6, bad-processes s) ∷ (7, bad-operations s) ∷ (8, bad-schedule-length s) ∷ []
+unfoldable pub header-conditions : Limits → List ℕ → List (ℕ × Bool)
+header-conditions l s = (5, bad-kind s) ∷ (6, bad-processes l s) ∷ (7, bad-operations l s) ∷ (8, bad-schedule-length l s) ∷ []
 
 -- the numbers 10 and 11, in the table's order
 unfoldable pub list-conditions : List ℕ → List (ℕ × Bool)

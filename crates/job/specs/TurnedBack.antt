@@ -9,10 +9,11 @@ use Rattle.basics.specs.Choice.{pick, same, less}
 use Rattle.basics.specs.Maps.{at}
 use Rattle.basics.specs.Words.{word, word-bytes}
 use Rattle.block.specs.Block.{block-size, payload-size, summed-size, add-byte, add-bytes, sums, block, payload-of, sum-differs, misplaced, block-refusal}
+use Rattle.job.specs.Limits.{field, most-file}
 use Rattle.job.specs.Kind.{kind-number, kinds, look-up, kind-of, is-missing}
 use Rattle.job.specs.Stream.{kind, processes, operations, schedule-length, record-at, process, action, value, scheduled, stream-length}
-use Rattle.job.specs.Refusals.{most-processes, most-operations, most-steps, first-met, any, outside, bad-kind, bad-processes, bad-operations, bad-schedule-length, exact-count, bad-record, bad-records, bad-entry, bad-schedule, bad-padding, header-conditions, list-conditions}
-use Rattle.job.specs.File.{most-blocks, most-file, zeros, block-at, block-count, payloads, joined, bad-length, blocks-refusal, bad-count, stream-refusal, file-refusal}
+use Rattle.job.specs.Refusals.{first-met, any, outside, bad-kind, bad-processes, bad-operations, bad-schedule-length, exact-count, bad-record, bad-records, bad-entry, bad-schedule, bad-padding, header-conditions, list-conditions}
+use Rattle.job.specs.File.{zeros, block-at, block-count, payloads, joined, bad-length, blocks-refusal, bad-count, stream-refusal, file-refusal}
 use Rattle.job.specs.Examples.{put, take, joined-records, header, stream}
 
 -- the block of a number whose payload begins with some bytes and is zero behind them; its sums are right
@@ -92,6 +93,6 @@ refusals =
     ∷ record { file = holding 0 (good ++ zeros (payload-size - length good - 1) ++ 1 ∷ []); number = 12 }
     ∷ []
 
-pub refusals-proved : map (λ r. file-refusal (r .file)) refusals ≡ map (λ r. r .number) refusals
-unfolding put take joined-records header stream holding damaged good refusals pick same less at word word-bytes block-size payload-size summed-size add-byte add-bytes sums block payload-of sum-differs misplaced block-refusal kind-number kinds look-up kind-of is-missing kind processes operations schedule-length record-at process action value scheduled stream-length most-processes most-operations most-steps first-met any outside bad-kind bad-processes bad-operations bad-schedule-length exact-count bad-record bad-records bad-entry bad-schedule bad-padding header-conditions list-conditions most-blocks most-file zeros block-at block-count payloads joined bad-length blocks-refusal bad-count stream-refusal file-refusal
+pub refusals-proved : map (λ r. file-refusal field (r .file)) refusals ≡ map (λ r. r .number) refusals
+unfolding put take joined-records header stream holding damaged good refusals pick same less at word word-bytes block-size payload-size summed-size add-byte add-bytes sums block payload-of sum-differs misplaced block-refusal kind-number kinds look-up kind-of is-missing kind processes operations schedule-length record-at process action value scheduled stream-length first-met any outside bad-kind bad-processes bad-operations bad-schedule-length exact-count bad-record bad-records bad-entry bad-schedule bad-padding header-conditions list-conditions most-file zeros block-at block-count payloads joined bad-length blocks-refusal bad-count stream-refusal file-refusal
 refusals-proved = refl

@@ -4,10 +4,10 @@ use memory::word_at;
 ghost use mathlib.Core.Path.{_≡_};
 ghost use Prim.Native.Nat.{_+_, _*_, _≤_, _<_};
 ghost use lib.ListN.{length};
-ghost use Rattle.job.specs.Limits.{field};
+ghost use Rattle.job.specs.Limits.{field, most-file, most-stream, Sound};
 ghost use Rattle.job.specs.Kind.{kind-of};
 ghost use Rattle.job.specs.Job.{job-of, heading-of};
-ghost use Rattle.job.specs.Stream.{operations, schedule-length, stream-length, record-at, action};
+ghost use Rattle.job.specs.Stream.{processes, operations, schedule-length, stream-length, record-at, action};
 ghost use Rattle.job.specs.Refusals.{first-met, outside, exact-count, bad-record, bad-records, bad-schedule, bad-padding, header-conditions, list-conditions};
 
 // An operation's number; operations count from 1, and 0 is none.
@@ -54,6 +54,11 @@ impl Limits {
 
     pub const REPORT: usize = 32768;
 
+    // The longest file and the longest joined stream of the field.
+    pub const FILE: usize = Limits::BLOCKS * Checked::BLOCK;
+
+    pub const STREAM: usize = Limits::BLOCKS * Checked::PAYLOAD;
+
     pub fn field() -> Limits
         ensures { λ r. ⌜ r ≡ field ⌝ }
     {
@@ -65,6 +70,22 @@ impl Limits {
             report: Limits::REPORT,
         }
     }
+
+    // The length of the longest file.
+    pub fn most_file(self) -> usize
+        requires { ⌜ Sound self ⌝ }
+        ensures { λ r. ⌜ r ≡ most-file self ⌝ }
+    {
+        self.blocks * Checked::BLOCK
+    }
+
+    // The length of the longest joined stream: what a read and a replay need as work memory.
+    pub fn most_stream(self) -> usize
+        requires { ⌜ Sound self ⌝ }
+        ensures { λ r. ⌜ r ≡ most-stream self ⌝ }
+    {
+        self.blocks * Checked::PAYLOAD
+    }
 }
 
 // What a call answers: a number of document 01's table, 0 where it is accepted, and a length.
@@ -74,19 +95,6 @@ pub struct Reply {
 }
 
 impl Reply {
-    // The limits of a job: P, N and S.
-    const MOST_PROCESSES: u16 = 8;
-
-    const MOST_OPERATIONS: u16 = 256;
-
-    const MOST_STEPS: u16 = 16384;
-    // Blocks of the longest file, its bytes, and those of its joined stream.
-    const MOST_BLOCKS: usize = 35;
-
-    pub const MOST_FILE: usize = Reply::MOST_BLOCKS * Checked::BLOCK;
-
-    pub const MOST_STREAM: usize = Reply::MOST_BLOCKS * Checked::PAYLOAD;
-
     // "A refusal gives its number and length 0".
     pub fn refused(number: u8) -> Reply
         ensures { λ r. ⌜ (r .number ≡ number) × (r .length ≡ 0) ⌝ }
@@ -115,6 +123,14 @@ pub fn object_of(s: &[u8]) -> Kind
         Lookup::Found(kind) => kind,
         Lookup::Missing => Kind::Queue,
     }
+}
+
+// The number of processes.
+fn processes(s: &[u8]) -> u8
+    requires { ⌜ 6 ≤ length (now s) ⌝ }
+    ensures { λ r. ⌜ r ≡ processes (now (s .entry)) ⌝ }
+{
+    s[1]
 }
 
 // The number of operations.
@@ -228,20 +244,20 @@ fn outside(low: u16, high: u16, n: u16) -> bool
 }
 
 // The numbers 5 to 8, and 0 where the header meets none.
-pub fn header(s: &[u8]) -> u8
+pub fn header(limits: Limits, s: &[u8]) -> u8
     requires { ⌜ 6 ≤ length (now s) ⌝ }
-    ensures { λ r. ⌜ r ≡ first-met (header-conditions (now (s .entry))) ⌝ }
+    ensures { λ r. ⌜ r ≡ first-met (header-conditions limits (now (s .entry))) ⌝ }
 {
     let Lookup::Found(_) = kind_of(s[0]) else {
         return 5;
     };
-    if outside(1, Reply::MOST_PROCESSES, s[1] as u16) {
+    if outside(1, limits.processes, processes(s) as u16) {
         return 6;
     }
-    if outside(1, Reply::MOST_OPERATIONS, operations(s)) {
+    if outside(1, limits.operations, operations(s)) {
         return 7;
     }
-    if Reply::MOST_STEPS < schedule_length(s) {
+    if limits.steps < schedule_length(s) {
         return 8;
     }
     0
@@ -249,19 +265,18 @@ pub fn header(s: &[u8]) -> u8
 
 // Is the record of an operation out of range?
 fn bad_record(s: &[u8], o: Operation) -> bool
-    requires { ⌜ (1 ≤ o .0) × (record-at (o .0) + 4 ≤ length (now s)) ⌝ }
+    requires { ⌜ (1 ≤ o .0) × (record-at (o .0) + 3 < length (now s)) ⌝ }
     ensures { λ r. ⌜ r ≡ bad-record (now (s .entry)) (o .0) ⌝ }
 {
-    let place = 2 + 4 * (o.0 as usize);
-    let action = s[place + 1];
-    if s[place] >= s[1] {
+    if owner(s, o).0 >= processes(s) {
         return true;
     }
+    let action = action(s, o);
     if outside(1, 2, action as u16) {
         return true;
     }
     if action == 2 {
-        return word_at(s, place + 2) != 0;
+        return value(s, o) != 0;
     }
     false
 }
@@ -287,12 +302,12 @@ fn bad_schedule(s: &[u8]) -> bool
     requires { ⌜ stream-length (now s) ≤ length (now s) ⌝ }
     ensures { λ r. ⌜ r ≡ bad-schedule (now (s .entry)) ⌝ }
 {
-    let before = 5 + 4 * (operations(s) as usize);
+    let count = operations(s);
     let end = schedule_length(s) as usize + 1;
-    let processes = s[1];
+    let processes = processes(s);
     let mut k: usize = 1;
     while k < end {
-        if s[before + k] >= processes {
+        if scheduled(s, count, Step(k as u16)).0 >= processes {
             return true;
         }
         k += 1;

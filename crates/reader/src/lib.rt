@@ -1,6 +1,7 @@
 // Reading a job file: its blocks into the lent work memory, and what the table says of them.
 use block::Checked;
 use block::give;
+use job::Limits;
 use job::Reply;
 use job::bad_padding;
 use job::exact_count;
@@ -16,8 +17,9 @@ ghost use Rattle.basics.specs.Choice.{pick, same};
 ghost use Rattle.memory.specs.Over.{over};
 ghost use Rattle.block.specs.Block.{block-size, payload-size, block-refusal};
 ghost use Rattle.block.specs.Checked.{number-of, bytes-of};
+ghost use Rattle.job.specs.Limits.{most-stream, Sound};
 ghost use Rattle.job.specs.Stream.{stream-length};
-ghost use Rattle.job.specs.File.{most-stream, block-at, payloads, blocks-refusal, bad-length};
+ghost use Rattle.job.specs.File.{block-at, payloads, blocks-refusal, bad-length};
 ghost use Rattle.job.specs.Calls.{read-number, read-length, read-work};
 ghost use Rattle.reader.specs.Loaded.{joined-refusal, Loaded};
 
@@ -52,24 +54,25 @@ fn join(file: &[u8], count: usize, work: &mut [u8]) -> u8
 }
 
 // Number 2: is the length of a file none that a file can have?
-fn bad_length(file: &[u8]) -> bool
-    ensures { λ r. ⌜ r ≡ bad-length (now (file .entry)) ⌝ }
+fn bad_length(limits: Limits, file: &[u8]) -> bool
+    requires { ⌜ Sound limits ⌝ }
+    ensures { λ r. ⌜ r ≡ bad-length limits (now (file .entry)) ⌝ }
 {
     if file.len() == 0 {
         return true;
     }
-    if Reply::MOST_FILE < file.len() {
+    if limits.most_file() < file.len() {
         return true;
     }
     file.len() % Checked::BLOCK != 0
 }
 
 // The numbers 5 to 12 of the joined stream of so many blocks, and 0 where it meets none.
-fn refusal(s: &[u8], count: usize) -> u8
+fn refusal(limits: Limits, s: &[u8], count: usize) -> u8
     requires { ⌜ (1 ≤ count) × (length (now s) ≡ payload-size * count) ⌝ }
-    ensures { λ r. ⌜ r ≡ joined-refusal (now (s .entry)) count ⌝ }
+    ensures { λ r. ⌜ r ≡ joined-refusal limits (now (s .entry)) count ⌝ }
 {
-    let of_header = header(s);
+    let of_header = header(limits, s);
     if of_header != 0 {
         return of_header;
     }
@@ -87,12 +90,12 @@ fn refusal(s: &[u8], count: usize) -> u8
 }
 
 // The reply for the joined stream of so many blocks.
-fn reply(s: &[u8], count: usize) -> Reply
+fn reply(limits: Limits, s: &[u8], count: usize) -> Reply
     requires { ⌜ (1 ≤ count) × (length (now s) ≡ payload-size * count) ⌝ }
-    ensures number { λ r. ⌜ r .number ≡ joined-refusal (now (s .entry)) count ⌝ }
-    ensures size { λ r. ⌜ r .length ≡ pick (same (joined-refusal (now (s .entry)) count) 0) (stream-length (now (s .entry))) 0 ⌝ }
+    ensures number { λ r. ⌜ r .number ≡ joined-refusal limits (now (s .entry)) count ⌝ }
+    ensures size { λ r. ⌜ r .length ≡ pick (same (joined-refusal limits (now (s .entry)) count) 0) (stream-length (now (s .entry))) 0 ⌝ }
 {
-    let number = refusal(s, count);
+    let number = refusal(limits, s, count);
     if number != 0 {
         return Reply::refused(number);
     }
@@ -101,11 +104,11 @@ fn reply(s: &[u8], count: usize) -> Reply
 }
 
 // The file's stream, with its padding, at the front of the work memory, and the reply.
-fn load(file: &[u8], work: &mut [u8]) -> Reply
-    requires { ⌜ most-stream ≤ length (now work) ⌝ }
-    ensures { λ r. ⌜ Loaded (now (file .entry)) (now (work .entry)) (now (work .exit)) r ⌝ }
+fn load(limits: Limits, file: &[u8], work: &mut [u8]) -> Reply
+    requires { ⌜ Sound limits × (most-stream limits ≤ length (now work)) ⌝ }
+    ensures { λ r. ⌜ Loaded limits (now (file .entry)) (now (work .entry)) (now (work .exit)) r ⌝ }
 {
-    if bad_length(file) {
+    if bad_length(limits, file) {
         return Reply::refused(2);
     }
     let count = file.len() / Checked::BLOCK;
@@ -114,21 +117,23 @@ fn load(file: &[u8], work: &mut [u8]) -> Reply
         return Reply::refused(of_blocks);
     }
     let end = Checked::PAYLOAD * count;
-    reply(&work[..end], count)
+    reply(limits, &work[..end], count)
 }
 
 // A read of a job file: document 01's number and length. Accepted, the first bytes of the work memory hold the stream and zeros;
 // refused, zeros; and too small, it is left alone.
-pub fn read(file: &[u8], work: &mut [u8]) -> Reply
-    ensures number { λ r. ⌜ r .number ≡ read-number (now (file .entry)) (now (work .entry)) ⌝ }
-    ensures size { λ r. ⌜ r .length ≡ read-length (now (file .entry)) (now (work .entry)) ⌝ }
-    ensures work { λ r. ⌜ now (work .exit) ≡ read-work (now (file .entry)) (now (work .entry)) ⌝ }
+pub fn read(limits: Limits, file: &[u8], work: &mut [u8]) -> Reply
+    requires { ⌜ Sound limits ⌝ }
+    ensures number { λ r. ⌜ r .number ≡ read-number limits (now (file .entry)) (now (work .entry)) ⌝ }
+    ensures size { λ r. ⌜ r .length ≡ read-length limits (now (file .entry)) (now (work .entry)) ⌝ }
+    ensures work { λ r. ⌜ now (work .exit) ≡ read-work limits (now (file .entry)) (now (work .entry)) ⌝ }
 {
-    if work.len() < Reply::MOST_STREAM {
+    let end = limits.most_stream();
+    if work.len() < end {
         return Reply::refused(1);
     }
-    let r = load(file, work);
+    let r = load(limits, file, work);
     let length = r.length;
-    clear(&mut work[length..Reply::MOST_STREAM]);
+    clear(&mut work[length..end]);
     r
 }

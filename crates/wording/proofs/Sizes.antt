@@ -14,7 +14,6 @@ use Rattle.stage.specs.Printed.{stage-text}
 use Rattle.stage.proofs.Printing.{stage-length}
 use Rattle.job.specs.declared.Kind.{Kind}
 use Rattle.job.specs.declared.Kind.the-variants.{Queue, Stack}
-use Rattle.job.specs.Refusals.{most-operations, most-steps}
 use Rattle.job.specs.Job.{Job}
 use Rattle.machine.specs.Multiplicity.{Line}
 use Rattle.machine.specs.Multiplicity.Line.{put, takes, empty}
@@ -32,10 +31,10 @@ use Rattle.wording.proofs.Sizes.Members.{all-members, has-members, memb
 pub mod Items
 pub mod Members
 
--- what is needed of a job's numbers: its limits, and that a process is a byte and a value two
+-- what is needed of a job's numbers: operations of at most three digits, steps of at most five, and that a process is a byte and a value two
 pub record Fits (j : Job) : Type 0 where
-  pub operations : j .count ≤ most-operations
-  pub steps : j .steps ≤ most-steps
+  pub operations : j .count < 1000
+  pub steps : j .steps < 100000
   pub owners : (o : ℕ) → IsOperation (j .count) o → j .owner o < 256
   pub values : (o : ℕ) → IsOperation (j .count) o → j .field o < 65536
 
@@ -53,14 +52,12 @@ object-length Stack = refl
 
 module _ (j : Job) (fits : Fits j) where
   operation-length : (o : ℕ) → IsOperation (j .count) o → length (decimal o) ≤ 3
-  unfolding most-operations
   operation-length o op = decimal-length 2 o (omega (arith, fits .operations))
 
   value-length : (o : ℕ) → IsOperation (j .count) o → length (stage-text (j .field o)) ≤ 5
   value-length o op = stage-length (j .field o) (fits .values o op)
 
   step-length : (s : ℕ) → s ≤ j .steps → length (decimal s) ≤ 5
-  unfolding most-steps
   step-length s h = decimal-length 4 s (omega (arith, fits .steps))
 
   action-length : (o : ℕ) → IsOperation (j .count) o → length (action-text j o) ≤ 10
@@ -78,7 +75,7 @@ module _ (j : Job) (fits : Fits j) where
 
   -- a line's text behind its step, by its members
   effect-length : (line : Line) → FromPuts (IsOperation (j .count)) line → ((o : ℕ) → List·Memᴰ o (members line) → IsOperation (j .count) o) → length (effect-text line) ≤ 16 * length (members line)
-  unfolding effect-text members text most-operations
+  unfolding effect-text members text
   effect-length (put o) s h = omega (arith, operation-length o (h o (List·Memᴰ·head refl)))
   effect-length (takes item takers) s h =
       simp length-append (omega (arith, operation-length item (handed-out (IsOperation (j .count)) s), spaced-length takers (λ x m. omega (arith, fits .operations, h x m)), has-members (IsOperation (j .count)) s))
@@ -132,7 +129,7 @@ module _ (j : Job) (fits : Fits j) where
         omega (arith, length-append (record-line r) (record-lines l), length-append (members (r .line)) (all-members l), record-line-length r (h r (List·Memᴰ·head refl)), record-lines-length l (λ q m. h q (List·Memᴰ·tail m)))
 
     left-line-length : length (left-line (left j (j .steps))) ≤ 9 + 4 * j .count
-    unfolding left-line text most-operations
+    unfolding left-line text
     left-line-length =
         simp length-append (omega (arith, left-count j (j .steps) ex, decimal-length 2 (length (left j (j .steps))) (omega (arith, left-count j (j .steps) ex, fits .operations)), spaced-length (left j (j .steps)) (λ x m. omega (arith, fits .operations, left-operation j (j .steps) ex x m))))
 
@@ -142,5 +139,5 @@ module _ (j : Job) (fits : Fits j) where
         simp length-append (omega (arith, object-length (j .object), operation-lines-length (j .count) (omega arith), record-lines-length (the-record j (j .steps)) (λ r m. m), members-count j (j .steps) ex, left-line-length))
 
 -- the report of any job with such numbers
-pub report-bounded : (j : Job) → Fits j → length (report j) ≤ 22 + 102 * most-operations
-report-bounded j fits = omega (arith, report-length j fits (explained j (j .steps)), fits .operations)
+pub report-bounded : (j : Job) → Fits j → length (report j) ≤ 22 + 102 * j .count
+report-bounded j fits = report-length j fits (explained j (j .steps))

@@ -14,9 +14,10 @@ use Rattle.stage.specs.Millimetres.{millimetres}
 use Rattle.stage.specs.Centimetres.{half-way, even-one, nearest, centimetres}
 use Rattle.stage.specs.Printed.{signed-decimal, stage-text}
 use Rattle.job.specs.Kind.{kind-number, kinds, look-up, kind-of, is-missing, kind-found}
+use Rattle.job.specs.Limits.{field, most-file}
 use Rattle.job.specs.Stream.{kind, processes, operations, schedule-length, record-at, process, action, value, scheduled, stream-length}
-use Rattle.job.specs.Refusals.{most-processes, most-operations, most-steps, first-met, any, outside, bad-kind, bad-processes, bad-operations, bad-schedule-length, exact-count, bad-record, bad-records, bad-entry, bad-schedule, bad-padding, header-conditions, list-conditions}
-use Rattle.job.specs.File.{most-blocks, most-file, zeros, block-at, block-count, payloads, joined, blocks, padded, file-of, bad-length, blocks-refusal, bad-count, stream-refusal, file-refusal}
+use Rattle.job.specs.Refusals.{first-met, any, outside, bad-kind, bad-processes, bad-operations, bad-schedule-length, exact-count, bad-record, bad-records, bad-entry, bad-schedule, bad-padding, header-conditions, list-conditions}
+use Rattle.job.specs.File.{zeros, block-at, block-count, payloads, joined, blocks, padded, file-of, bad-length, blocks-refusal, bad-count, stream-refusal, file-refusal}
 use Rattle.job.specs.Job.{job-of}
 use Rattle.job.specs.Examples.{put, take, joined-records, header, stream}
 use Rattle.machine.specs.Memory.{fresh-memory, set-from-to, yes-if, with-head, with-tail, with-top, with-next, with-mark}
@@ -138,12 +139,12 @@ pub record Replayed : Type 0 where
   pub text : List ℕ
 
 unfoldable pub replayed : Trace → Replayed
-replayed t = record { number = file-refusal (file-of (t .job)); text = report (job-of (t .job)) }
+replayed t = record { number = file-refusal field (file-of (t .job)); text = report (job-of (t .job)) }
 
 -- accepted, with the trace's report
 unfoldable pub promised : Trace → Replayed
 promised t = record { number = 0; text = text (t .expected) }
 
 pub traces-proved : map replayed traces ≡ map promised traces
-unfolding put take below joined-records header stream traces replayed promised pick same less at upd word word-bytes text digits decimal block-size payload-size summed-size add-byte add-bytes sums block payload-of sum-differs misplaced block-refusal kind-number kinds look-up kind-of is-missing kind-found kind processes operations schedule-length record-at process action value scheduled stream-length most-processes most-operations most-steps first-met any outside bad-kind bad-processes bad-operations bad-schedule-length exact-count bad-record bad-records bad-entry bad-schedule bad-padding header-conditions list-conditions most-blocks most-file zeros block-at block-count payloads joined blocks padded file-of bad-length blocks-refusal bad-count stream-refusal file-refusal job-of fresh-memory set-from-to yes-if with-head with-tail with-top with-next with-mark row table position row-of successor end-of is-end ended first-row have-read have-set access seek operation-after before fresh-state reach registers reached row-after place-after resting step state-after answer-at answer-of is-answer event-of is-round is-linked item-of moved-to idle acted note earliest latest made begins-round links joins ends first last answer start link join taken numbers sift largest takers first-move latest-start takes-at is-empty effect if-at line-at lines-to the-record walk left-in left millimetres half-way even-one nearest centimetres signed-decimal stage-text object-line action-text answer-text progress-text operation-line operation-lines spaced effect-text record-line record-lines left-line report
+unfolding put take below joined-records header stream traces replayed promised pick same less at upd word word-bytes text digits decimal block-size payload-size summed-size add-byte add-bytes sums block payload-of sum-differs misplaced block-refusal kind-number kinds look-up kind-of is-missing kind-found kind processes operations schedule-length record-at process action value scheduled stream-length first-met any outside bad-kind bad-processes bad-operations bad-schedule-length exact-count bad-record bad-records bad-entry bad-schedule bad-padding header-conditions list-conditions most-file zeros block-at block-count payloads joined blocks padded file-of bad-length blocks-refusal bad-count stream-refusal file-refusal job-of fresh-memory set-from-to yes-if with-head with-tail with-top with-next with-mark row table position row-of successor end-of is-end ended first-row have-read have-set access seek operation-after before fresh-state reach registers reached row-after place-after resting step state-after answer-at answer-of is-answer event-of is-round is-linked item-of moved-to idle acted note earliest latest made begins-round links joins ends first last answer start link join taken numbers sift largest takers first-move latest-start takes-at is-empty effect if-at line-at lines-to the-record walk left-in left millimetres half-way even-one nearest centimetres signed-decimal stage-text object-line action-text answer-text progress-text operation-line operation-lines spaced effect-text record-line record-lines left-line report
 traces-proved = refl

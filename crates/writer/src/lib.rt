@@ -1,6 +1,7 @@
 // Writing a job file: what the table says of a stream, and then its blocks into the lent output.
 use block::Checked;
 use block::make;
+use job::Limits;
 use job::Reply;
 use job::exact_count;
 use job::header;
@@ -13,22 +14,25 @@ ghost use lib.ListN.{length, take, drop};
 ghost use Rattle.memory.specs.Over.{over};
 ghost use Rattle.block.specs.Block.{block-size, payload-size, block};
 ghost use Rattle.block.specs.Checked.{filled};
+ghost use Rattle.job.specs.Limits.{Sound};
 ghost use Rattle.job.specs.Stream.{stream-length};
 ghost use Rattle.job.specs.Refusals.{exact-count};
 ghost use Rattle.job.specs.File.{file-of};
 ghost use Rattle.job.specs.Calls.{write-number, write-length, write-out};
 
 // The number of a write to an output of so many bytes: nothing is written before it is known.
-fn refusal(s: &[u8], room: usize) -> u8
-    ensures { λ r. ⌜ ((out : List ℕ) → length out ≡ room → r ≡ write-number (now (s .entry)) out) ⌝ }
+fn refusal(limits: Limits, s: &[u8], room: usize) -> u8
+    requires { ⌜ Sound limits ⌝ }
+    ensures { λ r. ⌜ ((out : List ℕ) → length out ≡ room → r ≡ write-number limits (now (s .entry)) out) ⌝ }
 {
-    if room < Reply::MOST_FILE {
+    let most = limits.most_file();
+    if room < most {
         return 1;
     }
     if s.len() < 6 {
         return 2;
     }
-    let of_header = header(s);
+    let of_header = header(limits, s);
     if of_header != 0 {
         return of_header;
     }
@@ -68,12 +72,13 @@ fn put_blocks(s: &[u8], count: usize, out: &mut [u8])
 }
 
 // A write of a job file: document 01's number and length, and the file at the front of the output. Refused, it is left alone.
-pub fn write(stream: &[u8], out: &mut [u8]) -> Reply
-    ensures number { λ r. ⌜ r .number ≡ write-number (now (stream .entry)) (now (out .entry)) ⌝ }
-    ensures size { λ r. ⌜ r .length ≡ write-length (now (stream .entry)) (now (out .entry)) ⌝ }
-    ensures out { λ r. ⌜ now (out .exit) ≡ write-out (now (stream .entry)) (now (out .entry)) ⌝ }
+pub fn write(limits: Limits, stream: &[u8], out: &mut [u8]) -> Reply
+    requires { ⌜ Sound limits ⌝ }
+    ensures number { λ r. ⌜ r .number ≡ write-number limits (now (stream .entry)) (now (out .entry)) ⌝ }
+    ensures size { λ r. ⌜ r .length ≡ write-length limits (now (stream .entry)) (now (out .entry)) ⌝ }
+    ensures out { λ r. ⌜ now (out .exit) ≡ write-out limits (now (stream .entry)) (now (out .entry)) ⌝ }
 {
-    let number = refusal(stream, out.len());
+    let number = refusal(limits, stream, out.len());
     if number != 0 {
         return Reply::refused(number);
     }

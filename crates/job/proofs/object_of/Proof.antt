@@ -8,18 +8,6 @@ use borrow.Author.Needs.{needs}
 use Rattle.job.proofs.object_of.Statement.{statement}
 use Rattle.job.proofs.object_of.Tie as tie
 
-shared-slice-read-kind-of : tie.Need-shared-slice-read-kind-of
-shared-slice-read-kind-of c = search needs
-
-kind-of-requires : tie.Need-kind-of-requires
-kind-of-requires c κs = search needs
-
-enum-known-kind : tie.Need-enum-known-kind
-enum-known-kind c = search needs
-
-enum-told : tie.Need-enum-told
-enum-told c = search needs
-
 returns : tie.Need-returns
 unfolding job-of kind-found kind at
 returns c = ap kind-found (sym (c .before .kind .given .1) ∙ c .before .before .before .kind-of .ensures)
@@ -32,9 +20,9 @@ pub object-of-spec : {M : Type 1} → statement M
 object-of-spec =
     tie.close
     (tie.spec
-    shared-slice-read-kind-of
-    kind-of-requires
-    enum-known-kind
-    enum-told
+    (λ c. search needs)
+    (λ c κs. search needs)
+    (λ c. search needs)
+    (λ c. search needs)
     returns
     returns-2)

@@ -4,12 +4,6 @@ use borrow.Author.Needs.{needs}
 use Rattle.job.proofs.schedule_length.Statement.{statement}
 use Rattle.job.proofs.schedule_length.Tie as tie
 
-word-at-requires : tie.Need-word-at-requires
-word-at-requires c κs = search needs
-
-returns : tie.Need-returns
-unfolding schedule-length
-returns c = c .word-at .ensures
-
 pub schedule-length-spec : {M : Type 1} → statement M
-schedule-length-spec = tie.close (tie.spec word-at-requires returns)
+unfolding schedule-length
+schedule-length-spec = tie.close (tie.spec (λ c κs. search needs) (λ c. c .word-at .ensures))

@@ -1,57 +1,35 @@
 -- `reader::read` meets its contract: a load, and zeros behind what it left. Assumes nothing.
 use mathlib.Core.Path.{_∙_}
-use Prim.Native.Nat.{ℕ}
-use mathlib.Core.List.{List}
-use Rattle.block.specs.Block.{payload-size}
-use Rattle.job.specs.File.{most-blocks, most-stream}
+use Prim.Native.Nat.{_≤_, _<_}
+use lib.ListN.{length}
+use Rattle.job.specs.Limits.{most-stream}
 use Rattle.reader.proofs.Left.{small-number, small-length, small-left, large-number, large-length, large-left}
 use borrow.Author.Needs.{needs}
 use native.Mathlib.Omega.{arith}
 use Rattle.reader.proofs.read.Statement.{statement}
 use Rattle.reader.proofs.read.Tie as tie
 
-refused-requires : tie.Need-refused-requires
-refused-requires c κs = search needs
-
 returns : tie.Need-returns
-unfolding most-stream most-blocks payload-size
 returns c =
     let e = c .refused .ensures in
-    let h = c .before .if1 .taken in
-    (e .0 ∙ small-number (c .before .before .before .before .args .file .now) (c .before .before .before .before .args .work .now) h, (e .1 ∙ small-length (c .before .before .before .before .args .file .now) (c .before .before .before .before .args .work .now) h, small-left (c .before .before .before .before .args .file .now) (c .before .before .before .before .args .work .now) h))
+    let p = c .before .before .before .before .before .args in
+    let small : length (p .work .now) < most-stream (p .limits) = omega (arith, c .before .if1 .taken, c .before .before .most-stream .ensures) in
+    (e .0 ∙ small-number (p .limits) (p .file .now) (p .work .now) small, (e .1 ∙ small-length (p .limits) (p .file .now) (p .work .now) small, small-left (p .limits) (p .file .now) (p .work .now) small))
 
 load-requires : tie.Need-load-requires
-unfolding most-stream most-blocks payload-size
-load-requires c κs = omega arith
-
-sub-clear : tie.Need-sub-clear
-unfolding most-stream most-blocks payload-size
-sub-clear c = omega (arith, c .before .before .load .ensures .room)
-
-part-clear-start : tie.Need-part-clear-start
-unfolding most-stream most-blocks payload-size
-part-clear-start c = omega (arith, c .before .before .load .ensures .room)
-
-part-clear-end : tie.Need-part-clear-end
-unfolding most-stream most-blocks payload-size
-part-clear-end c = omega (arith, c .before .before .load .ensures .room)
-
-clear-requires : tie.Need-clear-requires
-clear-requires c κs = search needs
-
-same-length : tie.Need-same-length
-same-length c = search needs
+load-requires c κs = (c .before .before .before .before .before .pre, omega (arith, c .before .before .most-stream .ensures))
 
 returns-2 : tie.Need-returns-2
-unfolding most-stream most-blocks payload-size
 returns-2 c =
-    let l = c .before .before .before .before .before .before .load in
-    let work : List ℕ = l .last .1 .0 in
-    let h = c .before .before .before .before .before .before .before .before .if1 .left in (
-      large-number (c .before .before .before .before .before .before .before .before .before .before .before .args .file .now) (c .before .before .before .before .before .before .before .before .before .before .before .args .work .now) work (l .result) (l .ensures) h,
+    let l = c .before .before .before .before .before .before in
+    let test = l .before .before in
+    let p = test .before .before .before .before .args in
+    let work = l .load .last .1 .1 .0 in
+    let large : most-stream (p .limits) ≤ length (p .work .now) = omega (arith, test .if1 .left, test .before .most-stream .ensures) in (
+      large-number (p .limits) (p .file .now) (p .work .now) work (l .load .result) (l .load .ensures) large,
       (
-        large-length (c .before .before .before .before .before .before .before .before .before .before .before .args .file .now) (c .before .before .before .before .before .before .before .before .before .before .before .args .work .now) work (l .result) (l .ensures) h,
-        large-left (c .before .before .before .before .before .before .before .before .before .before .before .args .file .now) (c .before .before .before .before .before .before .before .before .before .before .before .args .work .now) work (l .result) (l .ensures) h (c .before .before .clear .last .0) (l .kept .1 .0) (c .before .before .clear .ensures),
+        large-length (p .limits) (p .file .now) (p .work .now) work (l .load .result) (l .load .ensures) large,
+        large-left (p .limits) (p .file .now) (p .work .now) work (l .load .result) (l .load .ensures) large (c .before .before .clear .last .0) (test .before .most-stream .ensures) (l .load .kept .1 .1 .0) (c .before .before .clear .ensures),
       ),
     )
 
@@ -59,12 +37,13 @@ pub read-spec : {M : Type 1} → statement M
 read-spec =
     tie.close
     (tie.spec
-    refused-requires
+    (λ c κs. search needs)
+    (λ c κs. search needs)
     returns
     load-requires
-    sub-clear
-    part-clear-start
-    part-clear-end
-    clear-requires
-    same-length
+    (λ c. omega (arith, c .before .before .load .ensures .room, c .before .before .before .before .before .most-stream .ensures))
+    (λ c. omega (arith, c .before .before .load .ensures .room, c .before .before .before .before .before .most-stream .ensures))
+    (λ c. omega (arith, c .before .before .load .ensures .room, c .before .before .before .before .before .most-stream .ensures))
+    (λ c κs. search needs)
+    (λ c. search needs)
     returns-2)

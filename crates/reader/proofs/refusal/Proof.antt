@@ -12,52 +12,50 @@ header-requires : tie.Need-header-requires
 unfolding payload-size
 header-requires c κs = omega arith
 
-returns : tie.Need-returns
-returns c = header-decides (c .before .before .before .args .s .now) (c .before .before .before .args .count) (c .before .header .ensures) (c .if1 .taken)
-
 exact-count-requires : tie.Need-exact-count-requires
 unfolding payload-size
 exact-count-requires c κs = omega arith
 
 returns-2 : tie.Need-returns-2
-returns-2 c = past-header (c .before .before .before .before .before .args .s .now) (c .before .before .before .before .before .args .count) (c .before .before .before .header .ensures) (c .before .before .if1 .left) (count-decides (c .before .before .before .before .before .args .s .now) (c .before .before .before .before .before .args .count) (c .before .exact-count .ensures) (c .if2 .taken))
-
-lists-requires : tie.Need-lists-requires
-lists-requires c κs = count-has-room (c .before .before .before .before .before .args .s .now) (c .before .before .before .before .before .args .count) (c .before .exact-count .ensures) (c .if2 .left) (c .before .before .before .before .before .pre .1)
+returns-2 c =
+    let first = c .before .before in
+    past-header _ _ _ (first .before .header .ensures) (first .if1 .left) (count-decides _ _ (c .before .exact-count .ensures) (c .if2 .taken))
 
 returns-3 : tie.Need-returns-3
 returns-3 c =
-    past-header (c .before .before .before .before .before .before .before .args .s .now) (c .before .before .before .before .before .before .before .args .count) (c .before .before .before .before .before .header .ensures) (c .before .before .before .before .if1 .left)
-    (past-count (c .before .before .before .before .before .before .before .args .s .now) (c .before .before .before .before .before .before .before .args .count) (c .before .before .before .exact-count .ensures) (c .before .before .if2 .left)
-    (lists-decide (c .before .before .before .before .before .before .before .args .s .now) (c .before .before .before .before .before .before .before .args .count) (c .before .lists .ensures) (c .if3 .taken)))
-
-bad-padding-requires : tie.Need-bad-padding-requires
-bad-padding-requires c κs = count-has-room (c .before .before .before .before .before .before .before .args .s .now) (c .before .before .before .before .before .before .before .args .count) (c .before .before .before .exact-count .ensures) (c .before .before .if2 .left) (c .before .before .before .before .before .before .before .pre .1)
+    let second = c .before .before in
+    let first = second .before .before in
+    past-header _ _ _ (first .before .header .ensures) (first .if1 .left)
+    (past-count _ _ (second .before .exact-count .ensures) (second .if2 .left) (lists-decide _ (c .before .lists .ensures) (c .if3 .taken)))
 
 returns-4 : tie.Need-returns-4
 returns-4 c =
-    past-header (c .before .before .before .before .before .before .before .before .before .args .s .now) (c .before .before .before .before .before .before .before .before .before .args .count) (c .before .before .before .before .before .before .before .header .ensures) (c .before .before .before .before .before .before .if1 .left)
-    (past-count (c .before .before .before .before .before .before .before .before .before .args .s .now) (c .before .before .before .before .before .before .before .before .before .args .count) (c .before .before .before .before .before .exact-count .ensures) (c .before .before .before .before .if2 .left)
-    (past-lists (c .before .before .before .before .before .before .before .before .before .args .s .now) (c .before .before .before .before .before .before .before .before .before .args .count) (c .before .before .before .lists .ensures) (c .before .before .if3 .left)
-    (met-here 12 [] (sym (c .before .bad-padding .ensures) ∙ c .if4 .taken))))
+    let third = c .before .before in
+    let second = third .before .before in
+    let first = second .before .before in
+    past-header _ _ _ (first .before .header .ensures) (first .if1 .left)
+    (past-count _ _ (second .before .exact-count .ensures) (second .if2 .left)
+    (past-lists _ (third .before .lists .ensures) (third .if3 .left) (met-here 12 [] (sym (c .before .bad-padding .ensures) ∙ c .if4 .taken))))
 
 returns-5 : tie.Need-returns-5
 returns-5 c =
-    past-header (c .before .before .before .before .before .before .before .before .before .args .s .now) (c .before .before .before .before .before .before .before .before .before .args .count) (c .before .before .before .before .before .before .before .header .ensures) (c .before .before .before .before .before .before .if1 .left)
-    (past-count (c .before .before .before .before .before .before .before .before .before .args .s .now) (c .before .before .before .before .before .before .before .before .before .args .count) (c .before .before .before .before .before .exact-count .ensures) (c .before .before .before .before .if2 .left)
-    (past-lists (c .before .before .before .before .before .before .before .before .before .args .s .now) (c .before .before .before .before .before .before .before .before .before .args .count) (c .before .before .before .lists .ensures) (c .before .before .if3 .left)
-    (met-later 12 [] (sym (c .before .bad-padding .ensures) ∙ c .if4 .left) met-none)))
+    let third = c .before .before in
+    let second = third .before .before in
+    let first = second .before .before in
+    past-header _ _ _ (first .before .header .ensures) (first .if1 .left)
+    (past-count _ _ (second .before .exact-count .ensures) (second .if2 .left)
+    (past-lists _ (third .before .lists .ensures) (third .if3 .left) (met-later 12 [] (sym (c .before .bad-padding .ensures) ∙ c .if4 .left) met-none)))
 
 pub refusal-spec : {M : Type 1} → statement M
 refusal-spec =
     tie.close
     (tie.spec
     header-requires
-    returns
+    (λ c. header-decides _ _ _ (c .before .header .ensures) (c .if1 .taken))
     exact-count-requires
     returns-2
-    lists-requires
+    (λ c κs. count-has-room _ _ (c .before .exact-count .ensures) (c .if2 .left) (c .before .before .before .before .before .pre .1))
     returns-3
-    bad-padding-requires
+    (λ c κs. count-has-room _ _ (c .before .before .before .exact-count .ensures) (c .before .before .if2 .left) (c .before .before .before .before .before .before .before .pre .1))
     returns-4
     returns-5)

@@ -7,12 +7,6 @@ use native.Mathlib.Omega.{arith}
 use Rattle.reader.proofs.reply.Statement.{statement}
 use Rattle.reader.proofs.reply.Tie as tie
 
-refusal-requires : tie.Need-refusal-requires
-refusal-requires c κs = search needs
-
-refused-requires : tie.Need-refused-requires
-refused-requires c κs = search needs
-
 returns : tie.Need-returns
 returns c =
     let e = c .before .before .refusal .ensures in
@@ -22,9 +16,6 @@ stream-length-requires : tie.Need-stream-length-requires
 unfolding payload-size
 stream-length-requires c κs = omega arith
 
-cast-length : tie.Need-cast-length
-cast-length c = search needs
-
 returns-2 : tie.Need-returns-2
 returns-2 c =
     let e = c .before .before .refusal .ensures in
@@ -33,10 +24,4 @@ returns-2 c =
 pub reply-spec : {M : Type 1} → statement M
 reply-spec =
     tie.close
-    (tie.spec
-    refusal-requires
-    refused-requires
-    returns
-    stream-length-requires
-    cast-length
-    returns-2)
+    (tie.spec (λ c κs. search needs) (λ c κs. search needs) returns stream-length-requires (λ c. search needs) returns-2)

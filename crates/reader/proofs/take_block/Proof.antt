@@ -16,27 +16,9 @@ use native.Mathlib.Omega.{arith}
 use Rattle.reader.proofs.take_block.Statement.{statement}
 use Rattle.reader.proofs.take_block.Tie as tie
 
-mul-from : tie.Need-mul-from
-mul-from c = search needs
-
-add-end : tie.Need-add-end
-add-end c = search needs
-
-mul-at : tie.Need-mul-at
-mul-at c = search needs
-
-sub-give : tie.Need-sub-give
-sub-give c = search needs
-
-part-give-start : tie.Need-part-give-start
-part-give-start c = search needs
-
 part-give-end : tie.Need-part-give-end
 unfolding block-size
 part-give-end c = omega arith
-
-cast-give : tie.Need-cast-give
-cast-give c = search needs
 
 sub-give-2 : tie.Need-sub-give-2
 unfolding payload-size
@@ -46,17 +28,11 @@ part-give-start-2 : tie.Need-part-give-start-2
 unfolding payload-size
 part-give-start-2 c = omega arith
 
-part-give-end-2 : tie.Need-part-give-end-2
-part-give-end-2 c = search needs
-
 give-requires : tie.Need-give-requires
 unfolding block-size payload-size
 give-requires c κs =
     let p = c .before .before .before .before .args in
     (ap length (block-part (p .file .now) (p .i)) ∙ length-block-at (p .file .now) (p .i) (omega arith), omega (arith, length-part (p .work .now) (payload-size * p .i) (length (p .work .now) - payload-size * p .i) (omega arith)))
-
-same-length : tie.Need-same-length
-same-length c = search needs
 
 returns : tie.Need-returns
 unfolding block-size payload-size
@@ -76,16 +52,16 @@ pub take-block-spec : {M : Type 1} → statement M
 take-block-spec =
     tie.close
     (tie.spec
-    mul-from
-    add-end
-    mul-at
-    sub-give
-    part-give-start
+    (λ c. search needs)
+    (λ c. search needs)
+    (λ c. search needs)
+    (λ c. search needs)
+    (λ c. search needs)
     part-give-end
-    cast-give
+    (λ c. search needs)
     sub-give-2
     part-give-start-2
-    part-give-end-2
+    (λ c. search needs)
     give-requires
-    same-length
+    (λ c. search needs)
     returns)

@@ -15,18 +15,6 @@ use native.Mathlib.Omega.{arith}
 use Rattle.writer.proofs.put_block.Statement.{statement}
 use Rattle.writer.proofs.put_block.Tie as tie
 
-mul-from : tie.Need-mul-from
-mul-from c = search needs
-
-add-smaller : tie.Need-add-smaller
-add-smaller c = search needs
-
-smaller-requires : tie.Need-smaller-requires
-smaller-requires c κs = search needs
-
-mul-at : tie.Need-mul-at
-mul-at c = search needs
-
 sub-make : tie.Need-sub-make
 unfolding block-size
 sub-make c = omega arith
@@ -35,12 +23,6 @@ part-make-start : tie.Need-part-make-start
 unfolding block-size
 part-make-start c = omega arith
 
-part-make-end : tie.Need-part-make-end
-part-make-end c = search needs
-
-cast-make : tie.Need-cast-make
-cast-make c = search needs
-
 sub-make-2 : tie.Need-sub-make-2
 unfolding payload-size
 sub-make-2 c = omega (arith, c .before .smaller .ensures)
@@ -48,9 +30,6 @@ sub-make-2 c = omega (arith, c .before .smaller .ensures)
 part-make-start-2 : tie.Need-part-make-start-2
 unfolding payload-size
 part-make-start-2 c = omega (arith, c .before .smaller .ensures)
-
-part-make-end-2 : tie.Need-part-make-end-2
-part-make-end-2 c = search needs
 
 make-requires : tie.Need-make-requires
 unfolding block-size payload-size
@@ -61,9 +40,6 @@ make-requires c κs =
       omega (arith, length-part out (block-size * p .i) (length out - block-size * p .i) (omega arith)),
       omega (arith, ap length own, length-take payload-size (drop (payload-size * p .i) (p .s .now))),
     )
-
-same-length : tie.Need-same-length
-same-length c = search needs
 
 returns : tie.Need-returns
 unfolding block-size payload-size
@@ -81,17 +57,17 @@ pub put-block-spec : {M : Type 1} → statement M
 put-block-spec =
     tie.close
     (tie.spec
-    mul-from
-    add-smaller
-    smaller-requires
-    mul-at
+    (λ c. search needs)
+    (λ c. search needs)
+    (λ c κs. search needs)
+    (λ c. search needs)
     sub-make
     part-make-start
-    part-make-end
-    cast-make
+    (λ c. search needs)
+    (λ c. search needs)
     sub-make-2
     part-make-start-2
-    part-make-end-2
+    (λ c. search needs)
     make-requires
-    same-length
+    (λ c. search needs)
     returns)

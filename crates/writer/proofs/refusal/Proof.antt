@@ -1,6 +1,4 @@
 -- `writer::refusal` meets its contract: the conditions in the table's order. Assumes nothing.
-use Rattle.block.specs.Block.{block-size}
-use Rattle.job.specs.File.{most-file, most-blocks}
 use Rattle.writer.proofs.Decided.{room-decides, past-room, short-decides, past-short, header-decides, past-header, length-decides, past-length}
 use borrow.Author.Needs.{needs}
 use native.Mathlib.Omega.{arith}
@@ -8,56 +6,49 @@ use Rattle.writer.proofs.refusal.Statement.{statement}
 use Rattle.writer.proofs.refusal.Tie as tie
 
 returns : tie.Need-returns
-unfolding most-file most-blocks block-size
-returns c = λ out e. room-decides (c .before .before .args .s .now) out (omega arith)
+returns c = λ out e. room-decides _ _ out (omega (arith, c .before .most-file .ensures))
 
 returns-2 : tie.Need-returns-2
-unfolding most-file most-blocks block-size
-returns-2 c = λ out e. past-room (c .before .before .before .args .s .now) out (omega arith) (short-decides (c .before .before .before .args .s .now) (c .if2 .taken))
-
-header-requires : tie.Need-header-requires
-header-requires c κs = search needs
+returns-2 c =
+    let p = c .before .before .before .before .args in
+    λ out e. past-room (p .limits) (p .s .now) out (omega (arith, c .before .before .most-file .ensures)) (short-decides (p .limits) (p .s .now) (c .if2 .taken))
 
 returns-3 : tie.Need-returns-3
-unfolding most-file most-blocks block-size
 returns-3 c =
-    λ out e. past-room (c .before .before .before .before .before .args .s .now) out (omega arith) (past-short (c .before .before .before .before .before .args .s .now) (c .before .before .if2 .left) (header-decides (c .before .before .before .before .before .args .s .now) (c .before .header .ensures) (c .if3 .taken)))
-
-stream-length-requires : tie.Need-stream-length-requires
-stream-length-requires c κs = search needs
-
-cast-if4 : tie.Need-cast-if4
-cast-if4 c = search needs
+    let second = c .before .before in
+    let p = second .before .before .before .before .args in
+    λ out e. past-room (p .limits) (p .s .now) out (omega (arith, second .before .before .most-file .ensures))
+    (past-short (p .limits) (p .s .now) (second .if2 .left) (header-decides (p .limits) (p .s .now) (c .before .header .ensures) (c .if3 .taken)))
 
 returns-4 : tie.Need-returns-4
-unfolding most-file most-blocks block-size
 returns-4 c =
-    λ out e. past-room (c .before .before .before .before .before .before .before .args .s .now) out (omega arith)
-    (past-short (c .before .before .before .before .before .before .before .args .s .now) (c .before .before .before .before .if2 .left)
-    (past-header (c .before .before .before .before .before .before .before .args .s .now) (c .before .before .before .header .ensures) (c .before .before .if3 .left)
-    (length-decides (c .before .before .before .before .before .before .before .args .s .now) (c .before .stream-length .ensures) (c .if4 .taken))))
-
-lists-requires : tie.Need-lists-requires
-lists-requires c κs = search needs
+    let third = c .before .before in
+    let second = third .before .before in
+    let p = second .before .before .before .before .args in
+    λ out e. past-room (p .limits) (p .s .now) out (omega (arith, second .before .before .most-file .ensures))
+    (past-short (p .limits) (p .s .now) (second .if2 .left)
+    (past-header (p .limits) (p .s .now) (third .before .header .ensures) (third .if3 .left) (length-decides (p .s .now) (c .before .stream-length .ensures) (c .if4 .taken))))
 
 returns-5 : tie.Need-returns-5
-unfolding most-file most-blocks block-size
 returns-5 c =
-    λ out e. past-room (c .before .before .before .before .before .before .before .before .args .s .now) out (omega arith)
-    (past-short (c .before .before .before .before .before .before .before .before .args .s .now) (c .before .before .before .before .before .if2 .left)
-    (past-header (c .before .before .before .before .before .before .before .before .args .s .now) (c .before .before .before .before .header .ensures) (c .before .before .before .if3 .left)
-    (past-length (c .before .before .before .before .before .before .before .before .args .s .now) (c .before .before .stream-length .ensures) (c .before .if4 .left) (c .lists .ensures))))
+    let third = c .before .before .before in
+    let second = third .before .before in
+    let p = second .before .before .before .before .args in
+    λ out e. past-room (p .limits) (p .s .now) out (omega (arith, second .before .before .most-file .ensures))
+    (past-short (p .limits) (p .s .now) (second .if2 .left)
+    (past-header (p .limits) (p .s .now) (third .before .header .ensures) (third .if3 .left) (past-length (p .s .now) (c .before .before .stream-length .ensures) (c .before .if4 .left) (c .lists .ensures))))
 
 pub refusal-spec : {M : Type 1} → statement M
 refusal-spec =
     tie.close
     (tie.spec
+    (λ c κs. search needs)
     returns
     returns-2
-    header-requires
+    (λ c κs. search needs)
     returns-3
-    stream-length-requires
-    cast-if4
+    (λ c κs. search needs)
+    (λ c. search needs)
     returns-4
-    lists-requires
+    (λ c κs. search needs)
     returns-5)
