@@ -16,7 +16,7 @@ use Rattle.basics.proofs.Bytes.{bytes-none, bytes-append, bytes-take, bytes-dro
 use Rattle.basics.proofs.Choice.{same-equal, less-lt, less-le}
 use Rattle.block.specs.Block.{block-size, payload-size, payload-of}
 use Rattle.job.specs.declared.Limits.{Limits}
-use Rattle.job.specs.Limits.{most-stream}
+use Rattle.job.specs.Limits.{most-stream, Sound}
 use Rattle.job.specs.Kind.{kind-of, kind-found}
 use Rattle.job.specs.Stream.{kind, processes, operations, schedule-length, record-at, process, action, value, scheduled, stream-length}
 use Rattle.job.specs.Refusals.{outside, bad-padding, bad-processes, bad-schedule, bad-entry}
@@ -82,18 +82,21 @@ job-alike s t e =
     }
 
 -- a stream in range, as long as the longest, is ready for a run
-fine-ready : {l : Limits} {s : List ℕ} → Fine l s → length s ≡ most-stream l → Ready l s
-unfolding bad-processes bad-schedule bad-entry outside
-fine-ready {l} {s} f long =
+fine-ready : {l : Limits} {s : List ℕ} → Sound l → Fine l s → length s ≡ most-stream l → Ready s
+unfolding bad-processes bad-schedule bad-entry outside stream-length
+fine-ready {l} {s} sound f long =
     let most : processes s ≤ l .processes = less-le (or-both (less (processes s) 1) (less (l .processes) (processes s)) (f .processes) .1) in
     let entry : (k : ℕ) → 1 ≤ k → k < 1 + schedule-length s → scheduled s k < processes s =
     λ k low high. less-lt (not-false (less (scheduled s k) (processes s)) (any-each (bad-entry s) 1 (schedule-length s) (f .schedule) k low high))
     in
+    let few : operations s ≤ l .operations = fine-counts f .0 in
+    let short : schedule-length s ≤ l .steps = fine-counts f .1 in
     record {
-      few = fine-counts f .0;
-      short = fine-counts f .1;
-      long = long;
-      in-range = λ k low high. omega (arith, entry k low (omega arith));
+      rows = omega (arith, sound .rows);
+      cells = omega (arith, sound .cells);
+      places = λ k low high. omega (arith, entry k low (omega arith), sound .places);
+      whole = omega (arith, sound .stream-fits);
+      behind = omega (arith, sound .behind-fits);
     }
 
 pub length-joined : {l : Limits} (file : List ℕ) → Sized l file (block-count file) → length (joined file) ≡ payload-size * block-count file
@@ -156,5 +159,5 @@ module _ {l : Limits} (file : List ℕ) (g : Good-file l file) where
   unfolding zero-filled zeros-behind
   filled-job = job-alike _ _ (at-zeros (stream-of file) _)
 
-  pub filled-ready : Ready l (zero-filled l file)
-  filled-ready = fine-ready (fine-alike (record { byte = λ i h. ap (λ (f : ℕ → ℕ). f i) (sym at-filled) }) (g .fine)) filled-long
+  pub filled-ready : Sound l → Ready (zero-filled l file)
+  filled-ready sound = fine-ready sound (fine-alike (record { byte = λ i h. ap (λ (f : ℕ → ℕ). f i) (sym at-filled) }) (g .fine)) filled-long

@@ -1,14 +1,15 @@
--- What a run needs of the stream of an accepted job, with zeros behind it up to the length of the longest.
-use mathlib.Core.Path.{_≡_}
-use Prim.Native.Nat.{ℕ, _≤_, _<_}
+-- What a run needs of a stream, whatever the limits by which it was accepted: it is whole, and a run has a row for each operation, a cell
+-- for each step and a place for each process.
+use Prim.Native.Nat.{ℕ, _+_, _*_, _≤_, _<_}
 use mathlib.Core.List.{List}
 use lib.ListN.{length}
-use Rattle.job.specs.declared.Limits.{Limits}
-use Rattle.job.specs.Limits.{most-stream}
-use Rattle.job.specs.Stream.{operations, schedule-length, scheduled}
+use Rattle.job.specs.Limits.{field}
+use Rattle.job.specs.Stream.{operations, schedule-length, scheduled, stream-length}
 
-pub record Ready (l : Limits) (s : List ℕ) : Type 0 where
-  pub few : operations s ≤ l .operations
-  pub short : schedule-length s ≤ l .steps
-  pub long : length s ≡ most-stream l
-  pub in-range : (k : ℕ) → 1 ≤ k → k ≤ schedule-length s → scheduled s k < l .processes
+pub record Ready (s : List ℕ) : Type 0 where
+  pub rows : operations s ≤ field .operations
+  pub cells : schedule-length s ≤ field .steps
+  pub places : (k : ℕ) → 1 ≤ k → k ≤ schedule-length s → scheduled s k < field .processes
+  pub whole : stream-length s ≤ length s
+  -- as many bytes as a record has behind the last one: who looks for an operation past the last reads there
+  pub behind : 6 + 4 * operations s + 4 ≤ length s

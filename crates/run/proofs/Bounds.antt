@@ -5,11 +5,11 @@ use native.Mathlib.Omega.{arith}
 use mathlib.Core.List.{List}
 use lib.ListN.{length}
 use Rattle.basics.specs.Choice.{same}
-use Rattle.block.specs.Block.{payload-size}
 use Rattle.job.specs.declared.Heading.{Heading}
-use Rattle.job.specs.Limits.{field, most-stream}
+use Rattle.job.specs.Limits.{field}
 use Rattle.job.specs.Stream.{record-at}
 use Rattle.job.specs.Job.{job-of}
+use Rattle.job.proofs.Ready.{record-there, entry-there}
 use Rattle.machine.specs.Run.{operation-after}
 use Rattle.machine.proofs.Searches.{seek-to}
 use Rattle.run.specs.Promise.{Runnable}
@@ -24,23 +24,18 @@ module _ {stream : List ℕ} {job : Heading} (r : Runnable stream job) where
   pub its-steps : job .steps ≡ job-of stream .steps
   its-steps = ap (λ (h : Heading). h .steps) (r .told)
 
-  -- the limits as numbers, for arithmetic
   pub few : job .count ≤ field .operations
   unfolding job-of
-  few = subst (λ n. n ≤ field .operations) (sym its-count) (r .ready .few)
+  few = subst (λ n. n ≤ field .operations) (sym its-count) (r .ready .rows)
 
   pub short : job .steps ≤ field .steps
   unfolding job-of
-  short = subst (λ n. n ≤ field .steps) (sym its-steps) (r .ready .short)
-
-  long : length stream ≡ 17710
-  unfolding most-stream payload-size
-  long = r .ready .long
+  short = subst (λ n. n ≤ field .steps) (sym its-steps) (r .ready .cells)
 
   -- the records of its operations, and four bytes behind them
-  pub record-there : (o : ℕ) → o ≤ suc (job .count) → record-at o + 3 < length stream
-  unfolding record-at
-  record-there o h = omega (arith, few, long)
+  pub record-read : (o : ℕ) → o ≤ suc (job .count) → record-at o + 3 < length stream
+  unfolding job-of
+  record-read o h = record-there (r .ready) o (omega (arith, its-count))
 
   -- the operation after one of the job's is one, or the next number
   pub next-to : (p o : ℕ) → o ≤ job .count → operation-after (job-of stream) p o ≤ suc (job .count)
@@ -48,9 +43,10 @@ module _ {stream : List ℕ} {job : Heading} (r : Runnable stream job) where
   next-to p o h = omega (arith, its-count, seek-to (λ i. same (job-of stream .owner i) p) (suc o) (job-of stream .count - o))
 
   -- the entries of its schedule, each one of eight processes
-  pub entry-there : (k : ℕ) → k ≤ job .steps → 5 + 4 * job .count + k < length stream
-  entry-there k h = omega (arith, few, short, long)
+  pub entry-read : (k : ℕ) → k ≤ job .steps → 5 + 4 * job .count + k < length stream
+  unfolding job-of
+  entry-read k h = omega (arith, its-count, entry-there (r .ready) k (omega (arith, its-steps)))
 
   pub entry-in-range : (k : ℕ) → 1 ≤ k → k ≤ job .steps → job-of stream .entry k < field .processes
   unfolding job-of
-  entry-in-range k low high = r .ready .in-range k low (omega (arith, its-steps))
+  entry-in-range k low high = r .ready .places k low (omega (arith, its-steps))

@@ -22,7 +22,7 @@ use Rattle.journal.specs.Journal.{Holds}
 
 -- what a run needs of its stream: it is ready, and its heading is told
 pub record Runnable (stream : List ℕ) (job : Heading) : Type 0 where
-  pub ready : Ready field stream
+  pub ready : Ready stream
   pub told : job ≡ heading-of (job-of stream)
 
 -- a place that stands for none: an array has it past its end

@@ -6,7 +6,7 @@ use native.Mathlib.Omega.{arith}
 use mathlib.Core.Path.{refl, sym, _∙_}
 use Prim.Native.Nat.{_-_}
 use Rattle.job.specs.Job.{job-of}
-use Rattle.run.proofs.Bounds.{its-count, short, entry-there}
+use Rattle.run.proofs.Bounds.{its-count, short, entry-read}
 use Rattle.run.proofs.Places.{each-rests}
 use Rattle.run.proofs.Loop.{Turning, ran-at-start, p-in-range, turning-rests, makes, counted-in, turning-goes, turning-ends, finished}
 use Rattle.run.proofs.Settled.{ran-to-end, idle-behind, none-behind}
@@ -38,7 +38,7 @@ scheduled-requires : tie.Need-scheduled-requires Inv-loop μ-loop
 unfolding job-of
 scheduled-requires c κs =
     let r = c .before .before .before .before .before .before .before .before .before .pre .0 in
-    (its-count r, entry-there r _ (omega (arith, c .loop-test .taken)))
+    (its-count r, entry-read r _ (omega (arith, c .loop-test .taken)))
 
 cast-i : tie.Need-cast-i Inv-loop μ-loop
 cast-i c =
