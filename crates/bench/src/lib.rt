@@ -1,7 +1,9 @@
 // The calls of the bench for C and Rust. Each gives number × 2^32 + length; include/bench.h says what each number means.
+use job::Limits;
 use job::Reply;
 ghost use mathlib.Core.Path.{_≡_};
 ghost use Prim.Native.Nat.{_<_, _^_};
+ghost use Rattle.job.specs.Limits.{field};
 ghost use Rattle.job.specs.Calls.{read-number, read-length, read-work, write-number, write-length, write-out};
 ghost use Rattle.machine.specs.Explained.{Explained};
 ghost use Rattle.replayer.specs.Replay.{job-in, replay-number, replay-length, replay-report, replay-work};
@@ -18,28 +20,28 @@ fn pack(r: Reply) -> u64
 // Replays the job in a file: the report's length, and the report in the report memory.
 #[no_mangle]
 pub extern "C" fn bench_replay(file: &[u8], work: &mut [u8], report: &mut [u8]) -> u64
-    ensures answer { λ r. ⌜ r ≡ packed (replay-number (now (file .entry)) (now (work .entry)) (now (report .entry))) (replay-length (now (file .entry)) (now (work .entry)) (now (report .entry))) ⌝ }
-    ensures report { λ r. ⌜ now (report .exit) ≡ replay-report (now (file .entry)) (now (work .entry)) (now (report .entry)) ⌝ }
-    ensures work { λ r. ⌜ now (work .exit) ≡ replay-work (now (file .entry)) (now (work .entry)) (now (report .entry)) ⌝ }
-    ensures explained { λ r. ⌜ (replay-number (now (file .entry)) (now (work .entry)) (now (report .entry)) ≡ 0 → Explained (job-in (now (file .entry))) (job-in (now (file .entry)) .steps)) ⌝ }
+    ensures answer { λ r. ⌜ r ≡ packed (replay-number field (now (file .entry)) (now (work .entry)) (now (report .entry))) (replay-length field (now (file .entry)) (now (work .entry)) (now (report .entry))) ⌝ }
+    ensures report { λ r. ⌜ now (report .exit) ≡ replay-report field (now (file .entry)) (now (work .entry)) (now (report .entry)) ⌝ }
+    ensures work { λ r. ⌜ now (work .exit) ≡ replay-work field (now (file .entry)) (now (work .entry)) (now (report .entry)) ⌝ }
+    ensures explained { λ r. ⌜ (replay-number field (now (file .entry)) (now (work .entry)) (now (report .entry)) ≡ 0 → Explained (job-in (now (file .entry))) (job-in (now (file .entry)) .steps)) ⌝ }
 {
-    pack(replayer::replay(file, work, report))
+    pack(replayer::replay(Limits::field(), file, work, report))
 }
 
 // Reads a job file into the work memory: L, and the stream and zeros in the first 17,710 work bytes.
 #[no_mangle]
 pub extern "C" fn bench_read(file: &[u8], work: &mut [u8]) -> u64
-    ensures answer { λ r. ⌜ r ≡ packed (read-number (now (file .entry)) (now (work .entry))) (read-length (now (file .entry)) (now (work .entry))) ⌝ }
-    ensures work { λ r. ⌜ now (work .exit) ≡ read-work (now (file .entry)) (now (work .entry)) ⌝ }
+    ensures answer { λ r. ⌜ r ≡ packed (read-number field (now (file .entry)) (now (work .entry))) (read-length field (now (file .entry)) (now (work .entry))) ⌝ }
+    ensures work { λ r. ⌜ now (work .exit) ≡ read-work field (now (file .entry)) (now (work .entry)) ⌝ }
 {
-    pack(reader::read(file, work))
+    pack(reader::read(Limits::field(), file, work))
 }
 
 // Writes the job file of a stream: its length, and the file in the output.
 #[no_mangle]
 pub extern "C" fn bench_write(stream: &[u8], out: &mut [u8]) -> u64
-    ensures answer { λ r. ⌜ r ≡ packed (write-number (now (stream .entry)) (now (out .entry))) (write-length (now (stream .entry)) (now (out .entry))) ⌝ }
-    ensures out { λ r. ⌜ now (out .exit) ≡ write-out (now (stream .entry)) (now (out .entry)) ⌝ }
+    ensures answer { λ r. ⌜ r ≡ packed (write-number field (now (stream .entry)) (now (out .entry))) (write-length field (now (stream .entry)) (now (out .entry))) ⌝ }
+    ensures out { λ r. ⌜ now (out .exit) ≡ write-out field (now (stream .entry)) (now (out .entry)) ⌝ }
 {
-    pack(writer::write(stream, out))
+    pack(writer::write(Limits::field(), stream, out))
 }

@@ -1,10 +1,10 @@
 // Replays the job file on standard input: prints its report, or `refused`, a space and the number.
-use job::Reply;
+use job::Limits;
 use libc::STDIN_FILENO;
 use libc::STDOUT_FILENO;
 
 // One byte more than the longest file, so that a longer input is seen to be longer: its length is refused.
-const INPUT: usize = Reply::MOST_FILE + 1;
+const INPUT: usize = Limits::FILE + 1;
 
 // `refused`, a space and a number of at most two digits.
 fn refuse(number: u8) {
@@ -25,9 +25,9 @@ fn show(report: &[u8], length: usize) {
 fn main() {
     let mut file = [0u8; INPUT];
     let n = io::read_full(STDIN_FILENO, &mut file);
-    let mut work = [0u8; Reply::MOST_STREAM];
-    let mut report = [0u8; replayer::LEAST_REPORT];
-    let r = replayer::replay(&file[..n], &mut work, &mut report);
+    let mut work = [0u8; Limits::STREAM];
+    let mut report = [0u8; Limits::REPORT];
+    let r = replayer::replay(Limits::field(), &file[..n], &mut work, &mut report);
     let number = r.number;
     let length = r.length;
     if number != 0 {

@@ -4,11 +4,13 @@ use Prim.Native.Nat.{ℕ, _≤_}
 use mathlib.Core.List.{List, _++_}
 use lib.ListN.{length, take, drop, replicate}
 use lib.Seq.{length-take-le}
-use Rattle.job.specs.File.{most-stream, zeros}
+use Rattle.job.specs.File.{zeros}
 
-pub front-length : (work : List ℕ) → most-stream ≤ length work → most-stream ≡ length (take most-stream work)
-front-length work h = sym (length-take-le most-stream work h)
+-- the first bytes of the work memory, up to where the code ends them
+module _ {end most : ℕ} (work : List ℕ) (is : end ≡ most) (room : most ≤ length work) where
+  pub front-length : end ≡ length (take end work)
+  front-length = is ∙ sym (length-take-le most work room) ∙ ap (λ (n : ℕ). length (take n work)) (sym is)
 
-pub cleared : (work part : List ℕ) → most-stream ≤ length work → part ≡ replicate (length (take most-stream work)) 0 → part ++ drop most-stream work ≡ zeros most-stream ++ drop most-stream work
-unfolding zeros
-cleared work part h e = ap (λ l. l ++ drop most-stream work) (e ∙ ap (λ n. replicate n 0) (sym (front-length work h)))
+  pub cleared : (part : List ℕ) → part ≡ replicate (length (take end work)) 0 → part ++ drop end work ≡ zeros most ++ drop most work
+  unfolding zeros
+  cleared part e = ap (λ (l : List ℕ). l ++ drop end work) (e ∙ ap (λ (n : ℕ). replicate n 0) (sym front-length)) ∙ ap (λ (n : ℕ). zeros n ++ drop n work) is

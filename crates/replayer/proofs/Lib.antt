@@ -1,5 +1,4 @@
 -- From an accepted file to its job's run and report.
-pub mod Stream
 pub mod Told
 pub mod Ready
 pub mod Cleared

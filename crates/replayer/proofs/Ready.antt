@@ -6,27 +6,25 @@ use mathlib.Core.List.{List}
 use lib.ListN.{length, getD, replicate, length-replicate}
 use Rattle.basics.specs.Maps.{at}
 use Rattle.basics.specs.Words.{word}
-use Rattle.block.specs.Block.{payload-size}
 use Rattle.job.specs.declared.Kind.{Kind}
+use Rattle.job.specs.declared.Limits.{Limits}
+use Rattle.job.specs.Limits.{field, Sound}
 use Rattle.job.specs.Stream.{operations, schedule-length, process, record-at, scheduled, value, stream-length}
-use Rattle.job.specs.Refusals.{most-operations, most-processes, most-steps}
-use Rattle.job.specs.File.{most-blocks, most-stream}
 use Rattle.job.specs.Job.{job-of}
+use Rattle.job.specs.Ready.{Ready}
+use Rattle.job.proofs.Ready.{stream-there, records-there, rows-enough, cells-enough, place-enough}
+use Rattle.job.proofs.View.{zero-anywhere}
 use Rattle.machine.specs.Idle.{IdleBehind}
 use Rattle.machine.specs.Run.{state-after}
 use Rattle.wording.specs.Report.{report}
 use Rattle.wording.proofs.Sizes.{Fits, report-bounded}
-use Rattle.run.specs.Promise.{Runnable, Room, AllBlank, Ran}
+use Rattle.run.specs.Promise.{Runnable, Room, Blank, AllBlank, Ran}
 use Rattle.run.proofs.Loop.{SameLengths}
 use Rattle.report.specs.Columns.{HoldsRun, Remembers}
-use Rattle.replayer.specs.Replay.{least-report}
-use Rattle.replayer.specs.Ready.{Ready}
-use Rattle.replayer.proofs.Stream.{blank}
 use Rattle.replayer.proofs.Told.{told, remembered}
 
 -- memory as it is made: blank, with a cell for every node and every step
 pub fresh-room : Room (replicate 257 0) (replicate 257 0) (replicate 257 0) (replicate 257 0) (replicate 257 0) (replicate 257 0) (replicate 257 0) (replicate 257 0) (replicate 16385 0)
-unfolding most-operations most-steps
 fresh-room =
     let nodes : 256 < length (replicate {A = ℕ} 257 0) = subst (λ n. 256 < n) (sym (length-replicate {A = ℕ} 257 0)) (omega arith) in
     let steps : 16384 < length (replicate {A = ℕ} 16385 0) = subst (λ n. 16384 < n) (sym (length-replicate {A = ℕ} 16385 0)) (omega arith) in
@@ -41,6 +39,10 @@ fresh-room =
       in-stands = nodes;
       in-by = steps;
     }
+
+blank : (m : ℕ) → Blank (replicate m 0)
+unfolding at
+blank m i = zero-anywhere m i
 
 pub fresh-blank : AllBlank (replicate 257 0) (replicate 257 0) (replicate 257 0) (replicate 257 0) (replicate 257 0) (replicate 257 0) (replicate 257 0) (replicate 257 0) (replicate 16385 0)
 fresh-blank =
@@ -71,46 +73,37 @@ room-kept r l =
       in-by = omega (arith, r .in-by, l .of-by);
     }
 
-module _ {s : List ℕ} (r : Ready s) where
-  -- the limits as numbers, for arithmetic
-  bounds : (operations s ≤ 256) × (schedule-length s ≤ 16384) × (length s ≡ 17710)
-  unfolding most-operations most-steps most-stream most-blocks payload-size
-  bounds = (r .few, r .short, r .long)
-
-  pub header-there : 6 ≤ length s
-  header-there = omega (arith, bounds .2)
-
-  pub stream-there : stream-length s ≤ length s
-  unfolding stream-length
-  stream-there = omega (arith, bounds .0, bounds .1, bounds .2)
-
+module _ {l : Limits} (sound : Sound l) {s : List ℕ} (r : Ready l s) where
   pub runnable : (object : Kind) (count steps : ℕ) → object ≡ job-of s .object → count ≡ operations s → steps ≡ schedule-length s → Runnable s object count steps
+  unfolding stream-length
   runnable object count steps o c k =
       record {
         its-object = o;
         its-count = c;
         its-steps = k;
-        few = subst (λ n. n ≤ most-operations) (sym c) (r .few);
-        short = subst (λ n. n ≤ most-steps) (sym k) (r .short);
-        records = omega (arith, bounds .0, bounds .2);
-        entries = omega (arith, bounds .0, bounds .1, bounds .2);
-        in-range = subst (λ n. (i : ℕ) → 1 ≤ i → i ≤ n → scheduled s i < most-processes) (sym k) (r .in-range);
+        few = subst (λ n. n ≤ field .operations) (sym c) (rows-enough sound r);
+        short = subst (λ n. n ≤ field .steps) (sym k) (cells-enough sound r);
+        records = omega (arith, records-there sound r);
+        entries = omega (arith, stream-there sound r);
+        in-range = subst (λ n. (i : ℕ) → 1 ≤ i → i ≤ n → scheduled s i < field .processes) (sym k) (place-enough sound r);
       }
 
   -- bytes make numbers of their size, so the report has room
-  pub fits : ((i : ℕ) → getD s i 0 < 256) → Fits (job-of s)
+  fits : ((i : ℕ) → getD s i 0 < 256) → Fits (job-of s)
   unfolding job-of process record-at value word at
   fits byte =
       record {
-        operations = r .few;
-        steps = r .short;
+        operations = omega (arith, rows-enough sound r);
+        steps = omega (arith, cells-enough sound r);
         owners = λ o op. byte (2 + 4 * o);
         values = λ o op. omega (arith, byte (2 + 4 * o + 2), byte (suc (2 + 4 * o + 2)));
       }
 
-  pub report-room : (out : List ℕ) → ((i : ℕ) → getD s i 0 < 256) → least-report ≤ length out → length (report (job-of s)) ≤ length out
-  unfolding least-report most-operations
-  report-room out byte room = omega (arith, report-bounded (job-of s) (fits byte))
+  pub report-fits : ((i : ℕ) → getD s i 0 < 256) → length (report (job-of s)) ≤ l .report
+  unfolding job-of
+  report-fits byte =
+      let bound : length (report (job-of s)) ≤ 22 + 102 * operations s = report-bounded (job-of s) (fits byte) in
+      omega (arith, r .few, sound .report-fits)
 
   -- the run's steps are those of the job
   pub idle-to-end : {reach steps : ℕ} → steps ≡ schedule-length s → IdleBehind (job-of s) reach steps → IdleBehind (job-of s) reach (job-of s .steps)
@@ -125,8 +118,8 @@ module _ {s : List ℕ} (r : Ready s) where
 
     pub run-told : HoldsRun (job-of s) (job-of s .steps) first last start link taken stands by
     unfolding job-of
-    run-told = told (r .few) (r .short) room whole-run
+    run-told = told (rows-enough sound r) (cells-enough sound r) room whole-run
 
     pub run-remembered : Remembers (job-of s .count) (state-after (job-of s) (job-of s .steps) .memory) next mark head top
     unfolding job-of
-    run-remembered = remembered (r .few) (r .short) room whole-run
+    run-remembered = remembered (rows-enough sound r) (cells-enough sound r) room whole-run

@@ -10,66 +10,69 @@ use lib.ListN.{length, take, drop, replicate}
 use lib.Seq.{take-at, drop-at}
 use Rattle.basics.specs.Choice.{pick, same}
 use Rattle.basics.proofs.Choice.{both, pick-then, pick-else, equal-same, unequal-same, lt-less, le-less, less-le}
-use Rattle.job.specs.File.{most-stream, zeros, file-refusal, stream-of}
+use Rattle.job.specs.declared.Limits.{Limits}
+use Rattle.job.specs.Limits.{most-stream}
+use Rattle.job.specs.File.{zeros, file-refusal, stream-of, zeros-behind, zero-filled}
 use Rattle.job.specs.Job.{job-of}
 use Rattle.job.specs.Calls.{small-work, held, read-number, read-length, read-work}
+use Rattle.job.specs.Ready.{Ready}
+use Rattle.job.proofs.Accepted.{Good-file, accepted-good}
+use Rattle.job.proofs.View.{filled-long, filled-ready, filled-job}
 use Rattle.wording.specs.Report.{report}
 use Rattle.machine.specs.Explained.{Explained}
 use Rattle.theory.proofs.Theorem.{explained}
 use Rattle.text.specs.Laid.{laid}
 use Rattle.report.specs.Columns.{Reported}
-use Rattle.replayer.specs.Ready.{Ready}
-use Rattle.replayer.proofs.Stream.{zero-filled, filled-long, filled-ready, filled-job}
-use Rattle.replayer.specs.Replay.{least-report, small-memory, job-in, report-of, replay-number, replay-length, replay-report, replay-work}
+use Rattle.replayer.specs.Replay.{small-memory, job-in, report-of, replay-number, replay-length, replay-report, replay-work}
 
 -- what a replay says and leaves
-abbrev pub Replied : List ℕ → List ℕ → List ℕ → ℕ → ℕ → List ℕ → List ℕ → Type 0
-Replied file work out number size out′ work′ =
-    (number ≡ replay-number file work out)
-    × ((size ≡ replay-length file work out)
-    × ((out′ ≡ replay-report file work out)
-    × ((work′ ≡ replay-work file work out) × (number ≡ 0 → Explained (job-in file) (job-in file .steps)))))
+abbrev pub Replied : Limits → List ℕ → List ℕ → List ℕ → ℕ → ℕ → List ℕ → List ℕ → Type 0
+Replied l file work out number size out′ work′ =
+    (number ≡ replay-number l file work out)
+    × ((size ≡ replay-length l file work out)
+    × ((out′ ≡ replay-report l file work out)
+    × ((work′ ≡ replay-work l file work out) × (number ≡ 0 → Explained (job-in file) (job-in file .steps)))))
 
-module _ (file work out : List ℕ) where
+module _ (l : Limits) (file work out : List ℕ) where
   -- what follows from the number alone
-  refused : {number size : ℕ} {work′ : List ℕ} → number ≡ replay-number file work out → number ≢ 0 → size ≡ 0 → work′ ≡ replay-work file work out → Replied file work out number size out work′
+  refused : {number size : ℕ} {work′ : List ℕ} → number ≡ replay-number l file work out → number ≢ 0 → size ≡ 0 → work′ ≡ replay-work l file work out → Replied l file work out number size out work′
   unfolding replay-length replay-report
   refused e n z w =
-      let no : same (replay-number file work out) 0 ≡ false = unequal-same (λ q. n (e ∙ q)) in
+      let no : same (replay-number l file work out) 0 ≡ false = unequal-same (λ q. n (e ∙ q)) in
       (e, (z ∙ sym (pick-else _ _ no), (sym (pick-else _ _ no), (w, λ a. absurd (n a)))))
 
   -- the report memory is too small: nothing is touched
-  pub small-refused : {number size : ℕ} → length out < least-report → number ≡ 1 → size ≡ 0 → Replied file work out number size out work
+  pub small-refused : {number size : ℕ} → length out < l .report → number ≡ 1 → size ≡ 0 → Replied l file work out number size out work
   unfolding replay-number replay-work small-memory
   small-refused {number} h one z =
-      let small : small-memory work out ≡ true = ap (λ b. b || small-work work) (lt-less h) in
+      let small : small-memory l work out ≡ true = ap (λ b. b || small-work l work) (lt-less h) in
       refused (one ∙ sym (pick-then _ _ small)) (λ q. let b : ⊥ = omega arith in b) z (sym (pick-then _ _ small))
 
-  module _ (big : least-report ≤ length out) where
+  module _ (big : l .report ≤ length out) where
     -- with enough report memory a replay is refused as a read is
-    memory-as-read : small-memory work out ≡ small-work work
+    memory-as-read : small-memory l work out ≡ small-work l work
     unfolding small-memory
-    memory-as-read = ap (λ b. b || small-work work) (le-less big)
+    memory-as-read = ap (λ b. b || small-work l work) (le-less big)
 
-    number-as-read : replay-number file work out ≡ read-number file work
+    number-as-read : replay-number l file work out ≡ read-number l file work
     unfolding replay-number read-number
-    number-as-read = ap (λ b. pick b 1 (file-refusal file)) memory-as-read
+    number-as-read = ap (λ b. pick b 1 (file-refusal l file)) memory-as-read
 
     -- a refused read leaves the work memory as a refused replay does
-    work-as-read : read-number file work ≢ 0 → read-work file work ≡ replay-work file work out
+    work-as-read : read-number l file work ≢ 0 → read-work l file work ≡ replay-work l file work out
     unfolding read-number read-work replay-work
-    work-as-read n = go (both (small-work work)) ∙ sym (ap (λ b. pick b work (held [] work)) memory-as-read)
+    work-as-read n = go (both (small-work l work)) ∙ sym (ap (λ b. pick b work (held l [] work)) memory-as-read)
       where
         bytes : List ℕ
-        bytes = pick (same (file-refusal file) 0) (stream-of file) []
+        bytes = pick (same (file-refusal l file) 0) (stream-of file) []
 
-        go : (small-work work ≡ true) ⊎ (small-work work ≡ false) → pick (small-work work) work (held bytes work) ≡ pick (small-work work) work (held [] work)
+        go : (small-work l work ≡ true) ⊎ (small-work l work ≡ false) → pick (small-work l work) work (held l bytes work) ≡ pick (small-work l work) work (held l [] work)
         go (inl small) = pick-then _ _ small ∙ sym (pick-then _ _ small)
         go (inr large) =
-            ap (λ (b : List ℕ). pick (small-work work) work (held b work))
+            ap (λ (b : List ℕ). pick (small-work l work) work (held l b work))
             (pick-else _ _ (unequal-same (λ q. n (pick-else _ _ large ∙ q))))
 
-    pub read-refused : {number size : ℕ} {work′ : List ℕ} → number ≡ read-number file work → number ≢ 0 → size ≡ read-length file work → work′ ≡ read-work file work → Replied file work out number size out work′
+    pub read-refused : {number size : ℕ} {work′ : List ℕ} → number ≡ read-number l file work → number ≢ 0 → size ≡ read-length l file work → work′ ≡ read-work l file work → Replied l file work out number size out work′
     unfolding read-length
     read-refused e n z w =
         refused (e ∙ sym number-as-read) n
@@ -77,51 +80,54 @@ module _ (file work out : List ℕ) where
         (w ∙ work-as-read (λ q. n (e ∙ q)))
 
     -- an accepted job
-    module _ (accepted : read-number file work ≡ 0) where
-      not-small : small-work work ≡ false
+    module _ (accepted : read-number l file work ≡ 0) where
+      not-small : small-work l work ≡ false
       unfolding read-number
-      not-small = go (both (small-work work))
+      not-small = go (both (small-work l work))
         where
-          go : (small-work work ≡ true) ⊎ (small-work work ≡ false) → small-work work ≡ false
+          go : (small-work l work ≡ true) ⊎ (small-work l work ≡ false) → small-work l work ≡ false
           go (inl small) = absurd (let z : 1 ≡ 0 = sym (pick-then _ _ small) ∙ accepted in let b : ⊥ = omega arith in b)
           go (inr large) = large
 
-      file-accepted : file-refusal file ≡ 0
+      file-accepted : file-refusal l file ≡ 0
       unfolding read-number
       file-accepted = sym (pick-else _ _ not-small) ∙ accepted
 
+      good : Good-file l file
+      good = accepted-good l file file-accepted
+
       -- the work memory after the read
-      work-read : read-work file work ≡ zero-filled file ++ drop most-stream work
+      work-read : read-work l file work ≡ zero-filled l file ++ drop (most-stream l) work
       unfolding read-work held zero-filled
-      work-read = pick-else _ _ not-small ∙ ap (λ b. held b work) (pick-then _ _ (equal-same file-accepted))
+      work-read = pick-else _ _ not-small ∙ ap (λ b. held l b work) (pick-then _ _ (equal-same file-accepted))
 
-      front-read : take most-stream (read-work file work) ≡ zero-filled file
-      front-read = ap (take most-stream) work-read ∙ take-at (zero-filled file) (drop most-stream work) most-stream (filled-long file file-accepted)
+      front-read : take (most-stream l) (read-work l file work) ≡ zero-filled l file
+      front-read = ap (take (most-stream l)) work-read ∙ take-at (zero-filled l file) (drop (most-stream l) work) (most-stream l) (filled-long file good)
 
-      back-read : drop most-stream (read-work file work) ≡ drop most-stream work
-      back-read = ap (drop most-stream) work-read ∙ drop-at (zero-filled file) (drop most-stream work) most-stream (filled-long file file-accepted)
+      back-read : drop (most-stream l) (read-work l file work) ≡ drop (most-stream l) work
+      back-read = ap (drop (most-stream l)) work-read ∙ drop-at (zero-filled l file) (drop (most-stream l) work) (most-stream l) (filled-long file good)
 
-      read-ready : Ready (take most-stream (read-work file work))
-      read-ready = subst Ready (sym front-read) (filled-ready file file-accepted)
+      read-ready : Ready l (take (most-stream l) (read-work l file work))
+      read-ready = subst (Ready l) (sym front-read) (filled-ready file good)
 
-      read-job : job-of (take most-stream (read-work file work)) ≡ job-in file
+      read-job : job-of (take (most-stream l) (read-work l file work)) ≡ job-in file
       unfolding job-in
-      read-job = ap job-of front-read ∙ filled-job file file-accepted
+      read-job = ap job-of front-read ∙ filled-job file good
 
       -- the work memory after the read, and the report memory, are what the job needs
-      pub held-ready : (work₁ : List ℕ) → work₁ ≡ read-work file work → length work₁ ≡ length work → (most-stream ≤ length work₁) × Ready (take most-stream work₁) × (least-report ≤ length out)
+      pub held-ready : (work₁ : List ℕ) → work₁ ≡ read-work l file work → length work₁ ≡ length work → (most-stream l ≤ length work₁) × Ready l (take (most-stream l) work₁) × (l .report ≤ length out)
       unfolding small-work
-      held-ready work₁ e l =
-          let h : most-stream ≤ length work = less-le not-small in
-          (omega arith, subst (λ w. Ready (take most-stream w)) (sym e) read-ready, big)
+      held-ready work₁ e size =
+          let h : most-stream l ≤ length work = less-le not-small in
+          (omega arith, subst (λ w. Ready l (take (most-stream l) w)) (sym e) read-ready, big)
 
-      pub accepted-replied : {number size : ℕ} {out′ work′ : List ℕ} (work₁ : List ℕ) → work₁ ≡ read-work file work → number ≡ 0 → Reported out out′ size (report (job-of (take most-stream work₁))) → work′ ≡ zeros most-stream ++ drop most-stream work₁ → Replied file work out number size out′ work′
-      unfolding replay-length replay-report replay-work report-of laid held zeros
+      pub accepted-replied : {number size : ℕ} {out′ work′ : List ℕ} (work₁ : List ℕ) → work₁ ≡ read-work l file work → number ≡ 0 → Reported out out′ size (report (job-of (take (most-stream l) work₁))) → work′ ≡ zeros (most-stream l) ++ drop (most-stream l) work₁ → Replied l file work out number size out′ work′
+      unfolding replay-length replay-report replay-work report-of laid held zeros-behind zeros
       accepted-replied work₁ r e told w =
-          let none : replay-number file work out ≡ 0 = number-as-read ∙ accepted in
-          let met : same (replay-number file work out) 0 ≡ true = equal-same none in
-          let text : report (job-of (take most-stream work₁)) ≡ report (job-in file) = ap (λ w. report (job-of (take most-stream w))) r ∙ ap report read-job in
-          let large : small-memory work out ≡ false = memory-as-read ∙ not-small in (
+          let none : replay-number l file work out ≡ 0 = number-as-read ∙ accepted in
+          let met : same (replay-number l file work out) 0 ≡ true = equal-same none in
+          let text : report (job-of (take (most-stream l) work₁)) ≡ report (job-in file) = ap (λ w. report (job-of (take (most-stream l) w))) r ∙ ap report read-job in
+          let large : small-memory l work out ≡ false = memory-as-read ∙ not-small in (
             e ∙ sym none,
             (
               told .tells ∙ ap length text ∙ sym (pick-then _ _ met),
@@ -130,8 +136,8 @@ module _ (file work out : List ℕ) where
                     ∙ (λ i. text i ++ drop (zero-add (length (text i)) i) out)
                     ∙ sym (pick-then _ _ met),
                 (
-                  w ∙ ap (λ l. replicate most-stream 0 ++ l) (ap (drop most-stream) r ∙ back-read)
-                      ∙ ap (λ n. replicate n 0 ++ drop most-stream work) (let z : most-stream ≡ most-stream - 0 = omega arith in z)
+                  w ∙ ap (λ rest. replicate (most-stream l) 0 ++ rest) (ap (drop (most-stream l)) r ∙ back-read)
+                      ∙ ap (λ n. replicate n 0 ++ drop (most-stream l) work) (let z : most-stream l ≡ most-stream l - 0 = omega arith in z)
                       ∙ sym (pick-else _ _ large),
                   λ a. explained (job-in file) (job-in file .steps),
                 ),

@@ -3,7 +3,7 @@ use mathlib.Core.Path.{ap}
 use Prim.Native.Nat.{ℕ, _≤_}
 use native.Mathlib.Omega.{arith}
 use mathlib.Core.List.{List}
-use Rattle.job.specs.Refusals.{most-operations, most-steps}
+use Rattle.job.specs.Limits.{field}
 use Rattle.job.specs.Job.{Job}
 use Rattle.machine.specs.Memory.{Memory}
 use Rattle.machine.specs.Run.{state-after}
@@ -13,7 +13,7 @@ use Rattle.journal.specs.Holds as Journal
 use Rattle.run.specs.Promise.{Ran, Room}
 use Rattle.report.specs.Columns.{HoldsRun, Remembers}
 
-module _ {j : Job} {k head tail top : ℕ} {next mark first last start link taken stands by : List ℕ} (few : j .count ≤ most-operations) (short : k ≤ most-steps) (room : Room next mark first last start link taken stands by) (ran : Ran j k head tail top next mark first last start link taken stands by) where
+module _ {j : Job} {k head tail top : ℕ} {next mark first last start link taken stands by : List ℕ} (few : j .count ≤ field .operations) (short : k ≤ field .steps) (room : Room next mark first last start link taken stands by) (ran : Ran j k head tail top next mark first last start link taken stands by) where
   pub told : HoldsRun j k first last start link taken stands by
   unfolding cells
   told =

@@ -1,3 +1,2 @@
 -- What a replay gives and leaves, for all arguments.
 pub mod Replay
-pub mod Ready

@@ -1,54 +1,42 @@
 -- `replayer::replay_held` meets its contract: the part that holds the stream is lent, and then cleared. Assumes nothing.
-use Rattle.block.specs.Block.{payload-size}
-use Rattle.job.specs.File.{most-blocks, most-stream}
+use mathlib.Core.Path.{sym, subst}
+use Prim.Native.Nat.{ℕ}
+use lib.ListN.{take}
+use Rattle.job.specs.Job.{job-of}
+use Rattle.job.specs.Ready.{Ready}
+use Rattle.wording.specs.Report.{report}
+use Rattle.report.specs.Columns.{Reported}
 use Rattle.replayer.proofs.Cleared.{front-length, cleared}
 use borrow.Author.Needs.{needs}
+use native.Mathlib.Omega.{arith}
 use Rattle.replayer.proofs.replay_held.Statement.{statement}
 use Rattle.replayer.proofs.replay_held.Tie as tie
 
-slice-reshare-prefix-replay-stream : tie.Need-slice-reshare-prefix-replay-stream
-unfolding most-stream most-blocks payload-size
-slice-reshare-prefix-replay-stream c = c .before .before .pre .0
-
-slice-aggregate-replay-stream : tie.Need-slice-aggregate-replay-stream
-unfolding most-stream most-blocks payload-size
-slice-aggregate-replay-stream c = front-length (c .before .before .before .args .work .now) (c .before .before .before .pre .0)
-
 replay-stream-requires : tie.Need-replay-stream-requires
-unfolding most-stream most-blocks payload-size
-replay-stream-requires c κs = (c .before .before .before .before .pre .1, c .before .before .before .before .pre .2)
-
-slice-relend-prefix-clear : tie.Need-slice-relend-prefix-clear
-unfolding most-stream most-blocks payload-size
-slice-relend-prefix-clear c = c .before .before .before .before .before .before .before .pre .0
-
-slice-aggregate-clear : tie.Need-slice-aggregate-clear
-unfolding most-stream most-blocks payload-size
-slice-aggregate-clear c = front-length (c .before .before .before .before .before .before .before .before .args .work .now) (c .before .before .before .before .before .before .before .before .pre .0)
-
-clear-requires : tie.Need-clear-requires
-clear-requires c κs = search needs
-
-same-length : tie.Need-same-length
-same-length c = search needs
-
-same-length-2 : tie.Need-same-length-2
-same-length-2 c = search needs
+replay-stream-requires c κs =
+    let start = c .before .before .before .before .before in
+    (subst (λ (n : ℕ). Ready (start .args .limits) (take n (start .args .work .now))) (sym (c .before .before .most-stream .ensures)) (start .pre .1 .1), start .pre .1 .2, start .pre .0)
 
 returns : tie.Need-returns
-unfolding most-stream most-blocks payload-size
-returns c = (c .before .before .before .before .before .before .replay-stream .ensures, cleared (c .before .before .before .before .before .before .before .before .before .before .before .args .work .now) (c .before .before .clear .last .0) (c .before .before .before .before .before .before .before .before .before .before .before .pre .0) (c .before .before .clear .ensures))
+returns c =
+    let told = c .before .before .before .before .before .before in
+    let end = told .before .before .before in
+    let start = end .before .before .before in (
+      subst (λ (n : ℕ). Reported (start .args .report .now) (told .replay-stream .last .1 .1 .0) (told .replay-stream .result) (report (job-of (take n (start .args .work .now))))) (end .most-stream .ensures) (told .replay-stream .ensures),
+      cleared (start .args .work .now) (end .most-stream .ensures) (start .pre .1 .0) (c .before .before .clear .last .0) (c .before .before .clear .ensures),
+    )
 
 pub replay-held-spec : {M : Type 1} → statement M
 replay-held-spec =
     tie.close
     (tie.spec
-    slice-reshare-prefix-replay-stream
-    slice-aggregate-replay-stream
+    (λ c κs. search needs)
+    (λ c. omega (arith, c .most-stream .ensures, c .before .before .before .pre .1 .0))
+    (λ c. front-length _ (c .before .most-stream .ensures) (c .before .before .before .before .pre .1 .0))
     replay-stream-requires
-    slice-relend-prefix-clear
-    slice-aggregate-clear
-    clear-requires
-    same-length
-    same-length-2
+    (λ c. omega (arith, c .before .before .before .before .before .most-stream .ensures, c .before .before .before .before .before .before .before .before .pre .1 .0))
+    (λ c. front-length _ (c .before .before .before .before .before .before .most-stream .ensures) (c .before .before .before .before .before .before .before .before .before .pre .1 .0))
+    (λ c κs. search needs)
+    (λ c. search needs)
+    (λ c. search needs)
     returns)

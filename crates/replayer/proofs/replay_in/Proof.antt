@@ -1,20 +1,22 @@
 -- `replayer::replay_in` meets its contract: the run leaves what the report is written from, and the report has room. Assumes nothing.
-use Rattle.replayer.proofs.Ready.{header-there, stream-there, runnable, room-kept, run-told, run-remembered, report-room, idle-to-end}
+use native.Mathlib.Omega.{arith}
+use Rattle.job.proofs.Ready.{header-there, stream-there}
+use Rattle.replayer.proofs.Ready.{runnable, room-kept, run-told, run-remembered, report-fits, idle-to-end}
 use borrow.Author.Needs.{needs}
 use Rattle.replayer.proofs.replay_in.Statement.{statement}
 use Rattle.replayer.proofs.replay_in.Tie as tie
 
 object-of-requires : tie.Need-object-of-requires
-object-of-requires c κs = header-there (c .before .before .before .before .before .before .before .before .before .before .before .pre .0 .0)
+object-of-requires c κs = header-there (c .before .before .before .before .before .before .before .before .before .before .before .pre .0 .2) (c .before .before .before .before .before .before .before .before .before .before .before .pre .0 .0)
 
 operations-requires : tie.Need-operations-requires
-operations-requires c κs = header-there (c .before .before .before .before .before .before .before .before .before .before .before .before .pre .0 .0)
+operations-requires c κs = header-there (c .before .before .before .before .before .before .before .before .before .before .before .before .pre .0 .2) (c .before .before .before .before .before .before .before .before .before .before .before .before .pre .0 .0)
 
 schedule-length-requires : tie.Need-schedule-length-requires
-schedule-length-requires c κs = header-there (c .before .before .before .before .before .before .before .before .before .before .before .before .before .pre .0 .0)
+schedule-length-requires c κs = header-there (c .before .before .before .before .before .before .before .before .before .before .before .before .before .pre .0 .2) (c .before .before .before .before .before .before .before .before .before .before .before .before .before .pre .0 .0)
 
 run-all-requires : tie.Need-run-all-requires
-run-all-requires c κs = (runnable (c .before .before .before .before .before .before .before .before .before .before .before .before .before .before .before .before .before .before .before .before .before .before .before .pre .0 .0) _ _ _ (c .before .before .before .before .before .before .before .before .before .before .before .object-of .ensures) (c .before .before .before .before .before .before .before .before .before .before .operations .ensures) (c .before .before .before .before .before .before .before .before .before .schedule-length .ensures), (c .before .before .before .before .before .before .before .before .before .before .before .before .before .before .before .before .before .before .before .before .before .before .before .pre .1 .0, c .before .before .before .before .before .before .before .before .before .before .before .before .before .before .before .before .before .before .before .before .before .before .before .pre .1 .1))
+run-all-requires c κs = (runnable (c .before .before .before .before .before .before .before .before .before .before .before .before .before .before .before .before .before .before .before .before .before .before .before .pre .0 .2) (c .before .before .before .before .before .before .before .before .before .before .before .before .before .before .before .before .before .before .before .before .before .before .before .pre .0 .0) _ _ _ (c .before .before .before .before .before .before .before .before .before .before .before .object-of .ensures) (c .before .before .before .before .before .before .before .before .before .before .operations .ensures) (c .before .before .before .before .before .before .before .before .before .schedule-length .ensures), (c .before .before .before .before .before .before .before .before .before .before .before .before .before .before .before .before .before .before .before .before .before .before .before .pre .1 .0, c .before .before .before .before .before .before .before .before .before .before .before .before .before .before .before .before .before .before .before .before .before .before .before .pre .1 .1))
 
 write-report-requires : tie.Need-write-report-requires
 write-report-requires c κs =
@@ -23,13 +25,13 @@ write-report-requires c κs =
     let kept = ran .kept .1 .1 .1 .1 in
     let its-steps = c .before .before .before .before .before .before .before .before .before .before .before .before .before .before .before .before .before .before .before .before .before .before .before .before .before .before .before .before .before .before .before .before .before .before .before .before .before .before .schedule-length .ensures in
     let room = room-kept (start .pre .1 .0) (record { of-next = kept .0; of-mark = kept .1 .0; of-first = kept .1 .1 .0; of-last = kept .1 .1 .1 .0; of-start = kept .1 .1 .1 .1 .0; of-link = kept .1 .1 .1 .1 .1 .0; of-taken = kept .1 .1 .1 .1 .1 .1 .0; of-stands = kept .1 .1 .1 .1 .1 .1 .1 .0; of-by = kept .1 .1 .1 .1 .1 .1 .1 .1 .0 }) in (
-      run-told (start .pre .0 .0) its-steps room (ran .ensures .0),
+      run-told (start .pre .0 .2) (start .pre .0 .0) its-steps room (ran .ensures .0),
       (
-        run-remembered (start .pre .0 .0) its-steps room (ran .ensures .0),
+        run-remembered (start .pre .0 .2) (start .pre .0 .0) its-steps room (ran .ensures .0),
         (
-          stream-there (start .pre .0 .0),
-          report-room (start .pre .0 .0) (start .args .out .now) (λ i. c .before .before .before .before .before .before .before .before .before .before .before .before .before .before .before .before .before .before .before .before .before .before .before .before .before .before .before .before .before .before .before .before .before .before .before .before .before .before .before .before .before .before .before .before .before .before .before .before .before .before .before .shared-slice-known .given i .fits) (start .pre .0 .1),
-          idle-to-end (start .pre .0 .0) its-steps (ran .ensures .1),
+          stream-there (start .pre .0 .2) (start .pre .0 .0),
+          omega (arith, report-fits (start .pre .0 .2) (start .pre .0 .0) (λ i. c .before .before .before .before .before .before .before .before .before .before .before .before .before .before .before .before .before .before .before .before .before .before .before .before .before .before .before .before .before .before .before .before .before .before .before .before .before .before .before .before .before .before .before .before .before .before .before .before .before .before .before .shared-slice-known .given i .fits), start .pre .0 .1),
+          idle-to-end (start .pre .0 .2) (start .pre .0 .0) its-steps (ran .ensures .1),
         ),
       ),
     )
