@@ -1,42 +1,27 @@
 -- Where the takers of each item are: bounds found from both ends at once, and that nothing outside them takes the item. Assumes nothing.
-use mathlib.Core.Path.{_≡_, refl, sym, ap, subst}
-use mathlib.Core.Logic.{_≢_, ⊎-elim}
+use mathlib.Core.Path.{_≡_, sym, ap, subst, _∙_}
+use mathlib.Core.Logic.{_≢_}
 use Prim.Native.Nat.{ℕ, zero, suc, _+_, _-_, _≤_, _<_}
 use native.Mathlib.Omega.{arith}
 use mathlib.Core.List.{List}
-use lib.ListN.{length, set, replicate, List·getD-eq-default}
-use lib.Seq.{getD-set-same, getD-set-other}
-use Rattle.basics.specs.Choice.{same}
-use Rattle.basics.specs.Maps.{at}
-use Rattle.basics.proofs.Choice.{split, unequal-same}
+use lib.ListN.{length, replicate}
+use Rattle.basics.specs.Maps.{at, upd}
+use Rattle.basics.proofs.Choice.{unequal-same}
+use Rattle.basics.proofs.Maps.{upd-elim}
+use Rattle.rows.specs.Rows.{place, column, HasRows}
+use Rattle.rows.specs.Operations.{cells}
+use Rattle.rows.specs.Operations.Column.{Taken}
+use Rattle.rows.proofs.Rows.{own-column, other-column}
 use Rattle.text.proofs.Each.{Written, written-past}
-use Rattle.lines.specs.Members.{Bounds, CellStored}
-use Rattle.lines.proofs.Spaced.{member, member-out}
-
--- a store in a cell, and one where there is none
-pub stored-cell : (l : List ℕ) (i n : ℕ) → i < length l → CellStored (at l) (at (set l i n)) i n
-unfolding at
-stored-cell l i n h =
-    record { here = omega (arith, getD-set-same l i n 0 h); elsewhere = λ k other. getD-set-other l i k n 0 other }
-
-pub no-cell : (l : List ℕ) (i : ℕ) → length l ≤ i → 0 ≡ at l i
-unfolding at
-no-cell l i h = sym (List·getD-eq-default l 0 {n = i} h)
-
-pub stored-nowhere : (l : List ℕ) (i n : ℕ) → length l ≤ i → CellStored (at l) (at l) i n
-stored-nowhere l i n h = record { here = omega (arith, no-cell l i h); elsewhere = λ k other. refl }
+use Rattle.lines.specs.Members.{skips, beyonds, Unbounded, Bounds}
+use Rattle.lines.proofs.Spaced.{took, member, member-out}
 
 -- the bounds by the last `done` operations from the back, and the first `done` from the front
-pub record Bounded (taken : ℕ → ℕ) (count done : ℕ) (skip beyond : ℕ → ℕ) : Type 0 where
+pub record Bounded (ops bounds : List ℕ) (count done : ℕ) : Type 0 where
   pub up-to : done ≤ count
-  pub from : (o : ℕ) → count < o + done → o ≤ count → skip (taken o) < o
-  pub to : (o : ℕ) → 1 ≤ o → o ≤ done → o + beyond (taken o) ≤ count
-  pub skips : (i : ℕ) → skip i ≤ count
-  pub beyonds : (i : ℕ) → beyond i ≤ count
-
-stored-within : {before after : ℕ → ℕ} {i n most : ℕ} → CellStored before after i n → n ≤ most → ((k : ℕ) → before k ≤ most) → (k : ℕ) → after k ≤ most
-stored-within {before} {after} {i} {n} {most} s h all k =
-    ⊎-elim (λ (e : k ≡ i). subst (λ (x : ℕ). after x ≤ most) (sym e) (omega (arith, s .here))) (λ (other : k ≢ i). omega (arith, s .elsewhere k other, all k)) (split k i)
+  pub may : Unbounded ops bounds count
+  pub from : (o : ℕ) → count < o + done → o ≤ count → skips bounds (cells ops Taken o) < o
+  pub to : (o : ℕ) → 1 ≤ o → o ≤ done → o + beyonds bounds (cells ops Taken o) ≤ count
 
 -- in fresh cells
 pub zeros-within : (n most i : ℕ) → at (replicate n 0) i ≤ most
@@ -45,56 +30,91 @@ zeros-within zero most i = omega arith
 zeros-within (suc n) most zero = omega arith
 zeros-within (suc n) most (suc i) = zeros-within n most i
 
-module _ {taken : ℕ → ℕ} {count : ℕ} where
-  pub bounded-none : {skip beyond : ℕ → ℕ} → ((i : ℕ) → skip i ≤ count) → ((i : ℕ) → beyond i ≤ count) → Bounded taken count 0 skip beyond
-  bounded-none a b =
-      record { up-to = omega arith; from = λ o l h. absurd (omega arith); to = λ o l h. absurd (omega arith); skips = a; beyonds = b }
+module _ {ops bounds : List ℕ} {count : ℕ} where
+  pub bounded-none : Unbounded ops bounds count → Bounded ops bounds count 0
+  bounded-none h =
+      record { up-to = omega arith; may = h; from = λ o l m. absurd (omega arith); to = λ o l m. absurd (omega arith) }
 
-  pub bounded-all : {done : ℕ} {skip beyond : ℕ → ℕ} → Bounded taken count done skip beyond → count ≤ done → Bounds taken count skip beyond
+  pub bounded-all : {done : ℕ} → Bounded ops bounds count done → count ≤ done → Bounds ops bounds count
   bounded-all b all =
-      record { from = λ o l h. b .from o (omega arith) h; to = λ o l h. b .to o l (omega arith); skips = b .skips; beyonds = b .beyonds }
+      record {
+        has-ops = b .may .has-ops;
+        has-bounds = b .may .has-bounds;
+        from = λ o l h. b .from o (omega arith) h;
+        to = λ o l h. b .to o l (omega arith);
+        small = b .may .small;
+      }
 
-  module _ {done : ℕ} {skip beyond skip₁ beyond₁ : ℕ → ℕ} (b : Bounded taken count done skip beyond) (more : done < count) (s : CellStored skip skip₁ (taken (count - done)) (count - done - 1)) (t : CellStored beyond beyond₁ (taken (done + 1)) (count - (done + 1))) where
-    from-more : (o : ℕ) → count < o + (done + 1) → o ≤ count → skip₁ (taken o) < o
-    from-more o low high =
-        ⊎-elim
-        (λ (e : taken o ≡ taken (count - done)). subst (λ (x : ℕ). skip₁ x < o) (sym e) (omega (arith, s .here)))
-        (λ (other : taken o ≢ taken (count - done)).
-        let past : o ≢ count - done = λ e. other (ap taken e) in
-        omega (arith, s .elsewhere (taken o) other, b .from o (omega (arith, past)) high))
-        (split (taken o) (taken (count - done)))
+-- one operation more from either end: a store of what comes before the one, and a store of what is behind the other
+module _ {ops bounds : List ℕ} (low high : List ℕ) {count done : ℕ} (l h : ℕ) (b : Bounded ops bounds count done) (more : done < count) (taken-low : l ≡ cells ops Taken (count - done)) (s : at low ≡ upd (at bounds) (place l 0) (count - done - 1)) (taken-high : h ≡ cells ops Taken (done + 1)) (t : at high ≡ upd (at low) (place h 1) (count - (done + 1))) where
+  skips-stored : skips high ≡ upd (skips bounds) l (count - done - 1)
+  skips-stored =
+      ap (column 0) t
+      ∙ other-column (at low) h (count - (done + 1)) (omega arith) (omega arith) (λ z. let no : ⊥ = omega arith in no)
+      ∙ ap (column 0) s
+      ∙ own-column (at bounds) l 0 (count - done - 1)
 
-    to-more : (o : ℕ) → 1 ≤ o → o ≤ done + 1 → o + beyond₁ (taken o) ≤ count
-    to-more o low high =
-        ⊎-elim
-        (λ (e : taken o ≡ taken (done + 1)). subst (λ (x : ℕ). o + beyond₁ x ≤ count) (sym e) (omega (arith, t .here)))
-        (λ (other : taken o ≢ taken (done + 1)).
-        let past : o ≢ done + 1 = λ e. other (ap taken e) in
-        omega (arith, t .elsewhere (taken o) other, b .to o low (omega (arith, past))))
-        (split (taken o) (taken (done + 1)))
+  beyonds-stored : beyonds high ≡ upd (beyonds bounds) h (count - (done + 1))
+  beyonds-stored =
+      ap (column 1) t
+      ∙ own-column (at low) h 1 (count - (done + 1))
+      ∙ ap (λ (m : ℕ → ℕ). upd m h (count - (done + 1))) (ap (column 1) s ∙ other-column (at bounds) l (count - done - 1) (omega arith) (omega arith) (λ z. let no : ⊥ = omega arith in no))
 
-    pub bounded-more : Bounded taken count (done + 1) skip₁ beyond₁
-    bounded-more =
-        record {
-          up-to = omega arith;
-          from = from-more;
-          to = to-more;
-          skips = stored-within s (omega arith) (b .skips);
-          beyonds = stored-within t (omega arith) (b .beyonds);
-        }
+  from-more : (o : ℕ) → count < o + (done + 1) → o ≤ count → skips high (cells ops Taken o) < o
+  from-more o from to =
+      subst (λ (m : ℕ → ℕ). m (cells ops Taken o) < o) (sym skips-stored)
+      (upd-elim (λ x. x < o) (skips bounds) l (count - done - 1) (cells ops Taken o)
+      (λ here. omega arith)
+      (λ other.
+      let past : o ≢ count - done = λ e. other (ap (cells ops Taken) e ∙ sym taken-low) in
+      b .from o (omega (arith, past)) to))
 
-  -- the takers of an item, written one by one: none comes before the bound, and none behind
-  module _ {skip beyond : ℕ → ℕ} (b : Bounds taken count skip beyond) (item : ℕ) {i : ℕ} {before after : List ℕ} {at place : ℕ} (w : Written (member (λ o. same (taken o) item)) count i before after at place) where
-    pub skipped : {first : ℕ} → first ≡ skip item → i ≡ 0 → Written (member (λ o. same (taken o) item)) count first before after at place
-    skipped {first} f z =
-        written-past first w (omega arith) (omega (arith, b .skips item)) (λ k low high. member-out (λ o. same (taken o) item) k (unequal-same (λ e.
-        let early : skip (taken k) < k = b .from k (omega arith) (omega (arith, b .skips item)) in
-        let here : skip (taken k) ≡ skip item = ap skip e in
-        omega arith)))
+  to-more : (o : ℕ) → 1 ≤ o → o ≤ done + 1 → o + beyonds high (cells ops Taken o) ≤ count
+  to-more o from to =
+      subst (λ (m : ℕ → ℕ). o + m (cells ops Taken o) ≤ count) (sym beyonds-stored)
+      (upd-elim (λ x. o + x ≤ count) (beyonds bounds) h (count - (done + 1)) (cells ops Taken o)
+      (λ here. omega arith)
+      (λ other.
+      let past : o ≢ done + 1 = λ e. other (ap (cells ops Taken) e ∙ sym taken-high) in
+      b .to o from (omega (arith, past))))
 
-    pub past-bound : {rest : ℕ} → rest ≡ beyond item → count - rest ≤ i → Written (member (λ o. same (taken o) item)) count count before after at place
-    past-bound r past =
-        written-past count w (w .up-to) (omega arith) (λ k low high. member-out (λ o. same (taken o) item) k (unequal-same (λ e.
-        let late : k + beyond (taken k) ≤ count = b .to k (omega arith) high in
-        let here : beyond (taken k) ≡ beyond item = ap beyond e in
-        omega arith)))
+  small-still : (i : ℕ) → at high i ≤ count
+  small-still i =
+      let before : (i : ℕ) → at low i ≤ count =
+      λ i. subst (λ (m : ℕ → ℕ). m i ≤ count) (sym s) (upd-elim (λ x. x ≤ count) (at bounds) (place l 0) (count - done - 1) i (λ here. omega arith) (λ other. b .may .small i))
+      in
+      subst (λ (m : ℕ → ℕ). m i ≤ count) (sym t) (upd-elim (λ x. x ≤ count) (at low) (place h 1) (count - (done + 1)) i (λ here. omega arith) (λ other. before i))
+
+  pub bounded-more : length high ≡ length bounds → Bounded ops high count (done + 1)
+  bounded-more kept =
+      record {
+        up-to = omega arith;
+        may = record { has-ops = b .may .has-ops; has-bounds = omega (arith, kept, b .may .has-bounds); items = b .may .items; small = small-still };
+        from = from-more;
+        to = to-more;
+      }
+
+-- the item that was read in an operation's row is at most the count
+pub item-within : {ops bounds : List ℕ} {count done n : ℕ} (o : ℕ) → Bounded ops bounds count done → n ≡ cells ops Taken o → 1 ≤ o → o ≤ count → n ≤ count
+item-within o b e from to = omega (arith, b .may .items o from to, e)
+
+-- a bound that was read is at most the count
+pub small-bound : {ops bounds : List ℕ} {count n : ℕ} → Bounds ops bounds count → (f i : ℕ) → n ≡ column f (at bounds) i → n ≤ count
+unfolding column
+small-bound b f i e = omega (arith, e, b .small (place i f))
+
+-- the takers of an item, written one by one: none comes before the bound, and none behind
+module _ {ops bounds : List ℕ} {count : ℕ} (b : Bounds ops bounds count) (item : ℕ) {i : ℕ} {before after : List ℕ} {at place : ℕ} (w : Written (member (took ops item)) count i before after at place) where
+  pub skipped : {first : ℕ} → first ≡ skips bounds item → first ≤ count → i ≡ 0 → Written (member (took ops item)) count first before after at place
+  skipped {first} f most z =
+      written-past first w (omega arith) most (λ k low high. member-out (took ops item) k (unequal-same (λ e.
+      let early : skips bounds (cells ops Taken k) < k = b .from k (omega arith) (omega arith) in
+      let here : skips bounds (cells ops Taken k) ≡ skips bounds item = ap (skips bounds) e in
+      omega arith)))
+
+  pub past-bound : {rest : ℕ} → rest ≡ beyonds bounds item → count - rest ≤ i → Written (member (took ops item)) count count before after at place
+  past-bound r past =
+      written-past count w (w .up-to) (omega arith) (λ k low high. member-out (took ops item) k (unequal-same (λ e.
+      let late : k + beyonds bounds (cells ops Taken k) ≤ count = b .to k (omega arith) high in
+      let here : beyonds bounds (cells ops Taken k) ≡ beyonds bounds item = ap (beyonds bounds) e in
+      omega arith)))

@@ -1,18 +1,25 @@
--- The pieces of an operation line, by the tests that choose them. Assumes nothing.
-use mathlib.Core.Path.{_≡_, refl, sym, ap, ap₂, _∙_}
+-- The pieces of the lines, by the tests that choose them and by what was found. Assumes nothing.
+use mathlib.Core.Path.{_≡_, sym, ap, _∙_}
 use mathlib.Core.Logic.{_≢_}
 use Prim.Native.Nat.{ℕ}
 use mathlib.Core.Bool.{Bool, true, false}
-use mathlib.Core.List.{List, _++_, append-assoc}
+use mathlib.Core.List.{List, [], _++_, append-assoc, append-nil}
 use Rattle.basics.specs.Choice.{pick, same}
 use Rattle.basics.specs.Text.{text, decimal}
 use Rattle.basics.proofs.Choice.{pick-then, pick-else, equal-same, unequal-same}
+use Rattle.rows.specs.Operations.{cells}
+use Rattle.rows.specs.Operations.Column.{First, Last, Link, Taken}
 use Rattle.stage.specs.Printed.{stage-text}
+use Rattle.job.specs.declared.Operation.{Operation}
 use Rattle.job.specs.Job.{Job}
-use Rattle.machine.specs.Notes.{Answer, note}
-use Rattle.machine.specs.Journal
-use Rattle.wording.specs.Report.{action-text, answer-text, progress-text, operation-line}
-use Rattle.lines.specs.Told.{said, Told, front-text}
+use Rattle.machine.specs.Multiplicity.Line.{takes}
+use Rattle.machine.specs.Notes.{Answer}
+use Rattle.wording.specs.Report.{action-text, answer-text, spaced, effect-text, record-line, record-lines}
+use Rattle.lines.specs.declared.Found.{Found}
+use Rattle.lines.specs.declared.Found.the-variants.{Nothing, Put, Takers, Empty}
+use Rattle.lines.specs.Members.{takers-of}
+use Rattle.lines.specs.Lines.{found-line}
+use Rattle.lines.specs.Told.{said, front-text, end-told, progress-told}
 
 module _ (j : Job) (o : ℕ) {put : Bool} (e : put ≡ j .is-put o) where
   pub action-of-put : {field : ℕ} → put ≡ true → field ≡ j .field o → text " put " ++ stage-text field ≡ action-text j o
@@ -48,41 +55,29 @@ module _ (j : Job) where
     pub answer-of-item : link ≡ 0 → item ≢ 0 → answer-text j (Answer.item item) ≡ answer-text j (said link item)
     answer-of-item l z = ap (answer-text j) (sym (pick-else Answer.empty (Answer.item item) (unequal-same z)) ∙ said-of-take l)
 
--- what follows `last`, and the whole progress, by the steps and the answer
-abbrev pub ending : Job → ℕ → Answer → List ℕ
-ending j last a = pick (same last 0) (text "- open") (decimal last ++ answer-text j a)
+-- how an operation ended, and how far it came, by what was read in its row
+module _ (j : Job) (ops : List ℕ) (o : ℕ) where
+  pub end-of-open : {last : ℕ} → last ≡ cells ops Last o → last ≡ 0 → text " last - open" ≡ end-told j (cells ops) o
+  unfolding end-told
+  end-of-open e z = sym (pick-then _ _ (equal-same (sym e ∙ z)))
 
-abbrev progress : Job → ℕ → ℕ → Answer → List ℕ
-progress j first last a =
-    pick (same first 0) (text " first - last - waiting") (text " first " ++ decimal first ++ text " last " ++ ending j last a)
+  pub end-of-ended : {last link item : ℕ} → last ≡ cells ops Last o → last ≢ 0 → link ≡ cells ops Link o → item ≡ cells ops Taken o → text " last " ++ decimal last ++ answer-text j (said link item) ≡ end-told j (cells ops) o
+  unfolding end-told
+  end-of-ended {last} {link} {item} e z f g =
+      ap (λ (n : ℕ). text " last " ++ decimal n ++ answer-text j (said link item)) e
+      ∙ ap (λ (n : ℕ). text " last " ++ decimal (cells ops Last o) ++ answer-text j (said n item)) f
+      ∙ ap (λ (n : ℕ). text " last " ++ decimal (cells ops Last o) ++ answer-text j (said (cells ops Link o) n)) g
+      ∙ sym (pick-else (text " last - open") _ (unequal-same (λ y. z (e ∙ y))))
 
-module _ (j : Job) {k o first last link item : ℕ} (t : Told j k o first last link item) where
-  as-told : progress j first last (Journal.answer (note j) k o) ≡ progress-text j k o
-  unfolding progress-text
-  as-told = ap₂ (λ (f l : ℕ). progress j f l (Journal.answer (note j) k o)) (t .begins) (t .ends)
+  pub not-begun : {first : ℕ} → first ≡ cells ops First o → first ≡ 0 → text " first - last - waiting" ≡ progress-told j (cells ops) o
+  unfolding progress-told
+  not-begun e z = sym (pick-then _ _ (equal-same (sym e ∙ z)))
 
-  pub not-begun : first ≡ 0 → text " first - last - waiting" ≡ progress-text j k o
-  not-begun z = sym (pick-then _ _ (equal-same z)) ∙ as-told
-
-  pub begun : first ≢ 0 → text " first " ++ decimal first ++ (text " last " ++ ending j last (Journal.answer (note j) k o)) ≡ progress-text j k o
-  begun z =
-      sym (append-assoc (text " first " ++ decimal first) (text " last ") (ending j last (Journal.answer (note j) k o)))
-      ∙ sym (pick-else (text " first - last - waiting") _ (unequal-same z))
-      ∙ as-told
-
-  pub not-ended : first ≢ 0 → last ≡ 0 → text " first " ++ decimal first ++ text " last - open" ≡ progress-text j k o
-  unfolding text
-  not-ended z e =
-      ap (λ (l : List ℕ). text " first " ++ decimal first ++ (text " last " ++ l)) (sym (pick-then (text "- open") _ (equal-same e)))
-      ∙ begun z
-
-  pub has-ended : first ≢ 0 → last ≢ 0 → text " first " ++ decimal first ++ (text " last " ++ decimal last) ++ answer-text j (said link item) ≡ progress-text j k o
-  has-ended z e =
-      append-assoc (text " first " ++ decimal first) (text " last " ++ decimal last) (answer-text j (said link item))
-      ∙ ap (λ (l : List ℕ). text " first " ++ decimal first ++ l) (append-assoc (text " last ") (decimal last) (answer-text j (said link item)))
-      ∙ ap (λ (a : Answer). text " first " ++ decimal first ++ (text " last " ++ (decimal last ++ answer-text j a))) (sym (t .answers e))
-      ∙ ap (λ (l : List ℕ). text " first " ++ decimal first ++ (text " last " ++ l)) (sym (pick-else (text "- open") _ (unequal-same e)))
-      ∙ begun z
+  pub begun : {first : ℕ} → first ≡ cells ops First o → first ≢ 0 → text " first " ++ decimal first ++ end-told j (cells ops) o ≡ progress-told j (cells ops) o
+  unfolding progress-told
+  begun e z =
+      ap (λ (n : ℕ). text " first " ++ decimal n ++ end-told j (cells ops) o) e
+      ∙ sym (pick-else (text " first - last - waiting") _ (unequal-same (λ y. z (e ∙ y))))
 
 pub front-pieces : (j : Job) (o : ℕ) {process : ℕ} → process ≡ j .owner o → text "op " ++ decimal o ++ (text " process " ++ decimal process) ++ action-text j o ≡ front-text j o
 unfolding front-text
@@ -90,6 +85,25 @@ front-pieces j o {process} e =
     ap (λ (l : List ℕ). l ++ action-text j o) (sym (append-assoc (text "op " ++ decimal o) (text " process ") (decimal process)))
     ∙ ap (λ (p : ℕ). text "op " ++ decimal o ++ text " process " ++ decimal p ++ action-text j o) e
 
-pub line-pieces : (j : Job) (k o : ℕ) → front-text j o ++ progress-text j k o ++ text "\n" ≡ operation-line j k o
-unfolding front-text operation-line
-line-pieces j k o = refl
+-- the pieces of the line of an item's takers
+pub take-pieces : (s item : ℕ) (takers : List ℕ) → text "at " ++ decimal s ++ (text " take " ++ decimal item) ++ text " by" ++ spaced takers ++ text "\n" ≡ record-line (record { step = s; line = takes item takers })
+unfolding record-line effect-text
+take-pieces s item takers = simp append-assoc
+
+-- the line that was found, by what was found
+module _ (taken : ℕ → ℕ) (count s : ℕ) {f : Found} where
+  pub found-nothing : f ≡ Nothing → record-lines (found-line taken count s f) ≡ []
+  unfolding record-lines found-line
+  found-nothing e = ap (λ (x : Found). record-lines (found-line taken count s x)) e
+
+  pub found-put : (o : Operation) → f ≡ Put o → text "at " ++ decimal s ++ (text " put " ++ decimal (o .0)) ++ text "\n" ≡ record-lines (found-line taken count s f)
+  unfolding record-lines record-line effect-text found-line
+  found-put o e = sym (append-nil _) ∙ ap (λ (x : Found). record-lines (found-line taken count s x)) (sym e)
+
+  pub found-takers : (item : Operation) → f ≡ Takers item → record-line (record { step = s; line = takes (item .0) (takers-of taken count (item .0)) }) ≡ record-lines (found-line taken count s f)
+  unfolding record-lines found-line
+  found-takers item e = sym (append-nil _) ∙ ap (λ (x : Found). record-lines (found-line taken count s x)) (sym e)
+
+  pub found-empty : (o : Operation) → f ≡ Empty o → text "at " ++ decimal s ++ (text " empty by " ++ decimal (o .0)) ++ text "\n" ≡ record-lines (found-line taken count s f)
+  unfolding record-lines record-line effect-text found-line
+  found-empty o e = sym (append-nil _) ∙ ap (λ (x : Found). record-lines (found-line taken count s x)) (sym e)

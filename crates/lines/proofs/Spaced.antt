@@ -1,11 +1,14 @@
 -- Numbers of a list that meet a test, each behind a space: one after another. Assumes nothing.
 use mathlib.Core.Path.{_≡_, refl, sym, ap, subst, _∙_}
+use mathlib.Core.Logic.{_≢_}
 use Prim.Native.Nat.{ℕ, zero, suc}
 use mathlib.Core.Bool.{Bool, true, false}
 use mathlib.Core.List.{List, [], _∷_, _++_, append-assoc, append-nil}
 use Rattle.basics.specs.Choice.{same}
 use Rattle.basics.specs.Text.{text, decimal}
-use Rattle.basics.proofs.Choice.{pick-then, pick-else}
+use Rattle.basics.proofs.Choice.{pick-then, pick-else, equal-same, unequal-same}
+use Rattle.rows.specs.Operations.{cells}
+use Rattle.rows.specs.Operations.Column.{Taken}
 use Rattle.machine.specs.Effects.{numbers, sift}
 use Rattle.wording.specs.Report.{spaced}
 use Rattle.machine.proofs.Lists.{sift-append}
@@ -24,7 +27,7 @@ spaced-append (x ∷ a) b =
 abbrev pub member : (ℕ → Bool) → ℕ → List ℕ
 member f x = spaced (sift f (x ∷ []))
 
-pub member-in : (f : ℕ → Bool) (x : ℕ) → f x ≡ true → text " " ++ decimal x ≡ member f x
+member-in : (f : ℕ → Bool) (x : ℕ) → f x ≡ true → text " " ++ decimal x ≡ member f x
 unfolding spaced sift
 member-in f x t =
     sym (append-nil (text " " ++ decimal x)) ∙ ap spaced (sym (pick-then (x ∷ []) [] t))
@@ -42,9 +45,19 @@ members-to f (suc n) =
     ∙ ap spaced (sym (sift-append f (numbers n) (suc n ∷ [])))
 
 -- so the takers of an item are the operations that took it, one after another
-pub takers-each : (taken : ℕ → ℕ) (count item : ℕ) → each-to (member (λ o. same (taken o) item)) count ≡ spaced (takers-of taken count item)
+abbrev pub took : List ℕ → ℕ → ℕ → Bool
+took ops item o = same (cells ops Taken o) item
+
+pub takers-each : (ops : List ℕ) (count item : ℕ) → each-to (member (took ops item)) count ≡ spaced (takers-of (cells ops Taken) count item)
 unfolding takers-of
-takers-each taken count item = members-to (λ o. same (taken o) item) count
+takers-each ops count item = members-to (took ops item) count
+
+-- an operation, by the item that was read in its row
+pub taker-in : (ops : List ℕ) (o : ℕ) {n item : ℕ} → n ≡ cells ops Taken o → n ≡ item → text " " ++ decimal o ≡ member (took ops item) o
+taker-in ops o {item} e h = member-in (took ops item) o (equal-same (sym e ∙ h))
+
+pub taker-out : (ops : List ℕ) (o : ℕ) {n item : ℕ} → n ≡ cells ops Taken o → n ≢ item → member (took ops item) o ≡ []
+taker-out ops o {item} e h = member-out (took ops item) o (unequal-same (λ z. h (e ∙ z)))
 
 -- equal lists are written alike
 pub spaced-same : {before after whole l m : List ℕ} {at place : ℕ} → m ≡ l → Rest before after at place (spaced l) whole → Rest before after at place (spaced m) whole

@@ -1,3 +1,4 @@
--- What the code of a line is told of an operation, and the members of a line as the run's arrays hold them.
+-- The line of an operation and the line of a step, as the rows of a run's outcome hold them.
 pub mod Told
 pub mod Members
+pub mod Lines

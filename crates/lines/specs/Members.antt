@@ -1,12 +1,14 @@
--- The takers of an item and the items that are left, as the arrays that hold a run's outcome say them.
+-- The takers of an item and the items that are left, as the rows that hold a run's outcome say them.
 use mathlib.Core.Path.{_≡_}
-use mathlib.Core.Logic.{_≢_}
 use Prim.Native.Nat.{ℕ, _+_, _≤_, _<_}
 use mathlib.Core.Bool.{Bool, true}
 use mathlib.Core.List.{List}
-use lib.ListN.{length}
 use Rattle.basics.specs.Choice.{same}
 use Rattle.basics.specs.Maps.{at}
+use Rattle.rows.specs.Rows.{column, HasRows}
+use Rattle.rows.specs.Operations.{cells}
+use Rattle.rows.specs.Operations.Column.{Taken}
+use Rattle.rows.specs.Nodes.{nexts, marks}
 use Rattle.job.specs.declared.Kind.{Kind}
 use Rattle.job.specs.declared.Kind.the-variants.{Queue, Stack}
 use Rattle.machine.specs.Effects.{numbers, sift}
@@ -16,22 +18,32 @@ use Rattle.machine.specs.Left.{walk}
 unfoldable pub takers-of : (ℕ → ℕ) → ℕ → ℕ → List ℕ
 takers-of taken count item = sift (λ o. same (taken o) item) (numbers count)
 
--- where the takers of each item are: behind the first `skip` operations, and not among the last `beyond`
-pub record Bounds (taken : ℕ → ℕ) (count : ℕ) (skip beyond : ℕ → ℕ) : Type 0 where
-  pub from : (o : ℕ) → 1 ≤ o → o ≤ count → skip (taken o) < o
-  pub to : (o : ℕ) → 1 ≤ o → o ≤ count → o + beyond (taken o) ≤ count
-  pub skips : (i : ℕ) → skip i ≤ count
-  pub beyonds : (i : ℕ) → beyond i ≤ count
+-- every operation's item has a row, and bounds may be stored: none is past `count` yet
+pub record Unbounded (ops bounds : List ℕ) (count : ℕ) : Type 0 where
+  pub has-ops : HasRows count ops
+  pub has-bounds : HasRows count bounds
+  pub items : (o : ℕ) → 1 ≤ o → o ≤ count → cells ops Taken o ≤ count
+  pub small : (i : ℕ) → at bounds i ≤ count
 
--- a number was stored in a cell, if there is one: no cell reads as 0
-pub record CellStored (before after : ℕ → ℕ) (i n : ℕ) : Type 0 where
-  pub here : after i ≤ n
-  pub elsewhere : (k : ℕ) → k ≢ i → after k ≡ before k
+-- how many operations come before an item's first taker, and how many behind its last
+abbrev pub skips : List ℕ → ℕ → ℕ
+skips l = column 0 (at l)
+
+abbrev pub beyonds : List ℕ → ℕ → ℕ
+beyonds l = column 1 (at l)
+
+-- where the takers of each item are: behind the operations that its row skips, and not among those beyond
+pub record Bounds (ops bounds : List ℕ) (count : ℕ) : Type 0 where
+  pub has-ops : HasRows count ops
+  pub has-bounds : HasRows count bounds
+  pub from : (o : ℕ) → 1 ≤ o → o ≤ count → skips bounds (cells ops Taken o) < o
+  pub to : (o : ℕ) → 1 ≤ o → o ≤ count → o + beyonds bounds (cells ops Taken o) ≤ count
+  pub small : (i : ℕ) → at bounds i ≤ count
 
 -- the node from which the items that are left are walked: "for a queue the nodes linked behind Head […]; for a stack […] from Top down"
-unfoldable pub first-node : Kind → (ℕ → ℕ) → ℕ → ℕ → ℕ
-first-node Queue next head top = next head
-first-node Stack next head top = top
+unfoldable pub first-node : Kind → List ℕ → ℕ → ℕ → ℕ
+first-node Queue nodes head top = nexts nodes head
+first-node Stack nodes head top = top
 
 -- is a node that is reached still there, by its mark? "for a stack the unmarked nodes"
 unfoldable pub stays : Kind → ℕ → Bool
@@ -39,12 +51,11 @@ stays Queue mark = true
 stays Stack mark = same mark 0
 
 -- the items that are left, from a node on
-unfoldable pub left-from : Kind → (ℕ → ℕ) → (ℕ → ℕ) → ℕ → ℕ → List ℕ
-left-from object next mark node count = sift (λ i. stays object (mark i)) (walk next node count)
+unfoldable pub left-from : Kind → List ℕ → ℕ → ℕ → List ℕ
+left-from object nodes node count = sift (λ i. stays object (marks nodes i)) (walk (nexts nodes) node count)
 
--- the nodes 0 to `count` are in both arrays, every next is one of them, and so is the first
-pub record NodesThere (next mark : List ℕ) (count node : ℕ) : Type 0 where
-  pub nexts : count < length next
-  pub marks : count < length mark
-  pub within : (i : ℕ) → i ≤ count → at next i ≤ count
+-- the nodes 0 to `count` have rows, every next is one of them, and so is the first
+pub record NodesThere (nodes : List ℕ) (count node : ℕ) : Type 0 where
+  pub has-nodes : HasRows count nodes
+  pub within : (i : ℕ) → nexts nodes i ≤ count
   pub first : node ≤ count

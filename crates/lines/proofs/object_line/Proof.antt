@@ -21,6 +21,6 @@ object-line-spec =
     (λ c. search needs)
     (λ c κs. omega (arith, ap (λ k. length (object-line k)) (c .before .before .enum-told2 .given .1)))
     (λ c. search needs)
-    (λ c. wrote-as (sym (ap object-line (c .before .before .before .before .before .enum-told .given .1))) (c .before .before .put-bytes .ensures))
+    (λ c. wrote-as (sym (ap object-line (c .before .before .before .before .before .enum-told .given .1))) (search needs))
     (λ c. search needs)
-    (λ c. wrote-as (sym (ap object-line (c .before .before .before .before .before .enum-told2 .given .1))) (c .before .before .put-bytes2 .ensures)))
+    (λ c. wrote-as (sym (ap object-line (c .before .before .before .before .before .enum-told2 .given .1))) (search needs)))

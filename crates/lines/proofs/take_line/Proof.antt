@@ -1,53 +1,26 @@
 -- `lines::take_line` meets its contract. Assumes nothing.
-use mathlib.Core.Path.{refl}
+use mathlib.Core.Path.{ap}
 use native.Mathlib.Omega.{arith}
 use borrow.Author.Needs.{needs}
 use lib.ListN.{length-append}
 use Rattle.basics.specs.Text.{text}
-use Rattle.wording.specs.Report.{record-line}
-use Rattle.text.proofs.Laid.{wrote-three}
+use Rattle.wording.specs.Report.{effect-text, record-line}
+use Rattle.text.proofs.Laid.{wrote-four}
+use Rattle.lines.proofs.Pieces.{take-pieces}
 use Rattle.lines.proofs.take_line.Statement.{statement}
 use Rattle.lines.proofs.take_line.Tie as tie
 
-slice-aggregate-put-labelled : tie.Need-slice-aggregate-put-labelled
-slice-aggregate-put-labelled c = search needs
-
-put-labelled-requires : tie.Need-put-labelled-requires
-unfolding text record-line
-put-labelled-requires c κs =
-    let start = c .before .before .before .before .before .before in
-    omega (arith, simp length-append at (start .pre .1))
-
-put-takes-requires : tie.Need-put-takes-requires
-unfolding text record-line
-put-takes-requires c κs =
-    let start = c .before .before .before .before .before .before .before .before .before .before in
-    (start .pre .0, omega (arith, simp length-append at (start .pre .1)), start .pre .2)
-
-slice-aggregate-put-bytes : tie.Need-slice-aggregate-put-bytes
-slice-aggregate-put-bytes c = search needs
-
-put-bytes-requires : tie.Need-put-bytes-requires
-unfolding text record-line
-put-bytes-requires c κs =
-    let start = c .before .before .before .before .before .before .before .before .before .before .before .before .before .before .before in
-    omega (arith, simp length-append at (start .pre .1))
-
-same-length : tie.Need-same-length
-same-length c = search needs
-
-returns : tie.Need-returns
-unfolding text record-line
-returns c = wrote-three refl (c .before .before .before .before .before .before .before .before .before .before .before .before .before .before .before .before .before .before .pre .1) (c .before .before .before .before .before .before .before .before .before .before .before .put-labelled .ensures) (c .before .before .before .before .before .before .before .put-takes .ensures) (c .before .before .put-bytes .ensures)
-
 pub take-line-spec : {M : Type 1} → statement M
+unfolding text record-line effect-text
 take-line-spec =
     tie.close
     (tie.spec
-    slice-aggregate-put-labelled
-    put-labelled-requires
-    put-takes-requires
-    slice-aggregate-put-bytes
-    put-bytes-requires
-    same-length
-    returns)
+    (λ c. search needs)
+    (λ c κs. simp length-append (omega (arith, simp length-append at (c .before .before .before .before .before .pre .2))))
+    (λ c. search needs)
+    (λ c κs. omega (arith, simp length-append at (c .before .before .before .before .before .before .before .before .before .before .pre .2), simp length-append at (c .before .before .before .before .put-at .ensures .behind)))
+    (λ c κs. (search needs, search needs, omega (arith, simp length-append at (c .before .before .before .before .before .before .before .before .before .before .before .before .before .before .pre .2), simp length-append at (c .before .before .before .before .before .before .before .before .put-at .ensures .behind))))
+    (λ c. search needs)
+    (λ c κs. omega (arith, simp length-append at (c .before .before .before .before .before .before .before .before .before .before .before .before .before .before .before .before .before .before .before .pre .2), simp length-append at (c .before .before .before .before .before .before .before .before .before .before .before .before .before .put-at .ensures .behind)))
+    (λ c. search needs)
+    (λ c. wrote-four (take-pieces _ _ _) (search needs) (c .before .before .before .before .before .before .before .before .before .before .before .before .before .before .before .before .put-at .ensures) (c .before .before .before .before .before .before .before .before .before .before .before .put-bytes .ensures) (c .before .before .before .before .before .before .before .put-takers .ensures) (search needs)))
