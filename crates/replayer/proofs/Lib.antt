@@ -1,6 +1,5 @@
 -- From an accepted file to its job's run and report.
-pub mod Told
-pub mod Ready
+pub mod Fresh
+pub mod Short
 pub mod Cleared
 pub mod Replied
-pub mod Short

@@ -8,12 +8,13 @@ use mathlib.Core.Bool.{true, false, _||_}
 use mathlib.Core.List.{List, [], _++_}
 use lib.ListN.{length, take, drop, replicate}
 use lib.Seq.{take-at, drop-at}
+use Rattle.basics.specs.Bytes.{Bytes}
 use Rattle.basics.specs.Choice.{pick, same}
 use Rattle.basics.proofs.Choice.{both, pick-then, pick-else, equal-same, unequal-same, lt-less, le-less, less-le}
 use Rattle.job.specs.declared.Limits.{Limits}
-use Rattle.job.specs.Limits.{most-stream}
+use Rattle.job.specs.Limits.{most-stream, Sound}
 use Rattle.job.specs.File.{zeros, file-refusal, stream-of, zeros-behind, zero-filled}
-use Rattle.job.specs.Job.{job-of}
+use Rattle.job.specs.Job.{Job, job-of}
 use Rattle.job.specs.Calls.{small-work, held, read-number, read-length, read-work}
 use Rattle.job.specs.Ready.{Ready}
 use Rattle.job.proofs.Accepted.{Good-file, accepted-good}
@@ -23,6 +24,7 @@ use Rattle.machine.specs.Explained.{Explained}
 use Rattle.theory.proofs.Theorem.{explained}
 use Rattle.text.specs.Laid.{laid}
 use Rattle.report.specs.Columns.{Reported}
+use Rattle.replayer.proofs.Short.{report-short}
 use Rattle.replayer.specs.Replay.{small-memory, job-in, report-of, replay-number, replay-length, replay-report, replay-work}
 
 -- what a replay says and leaves
@@ -107,19 +109,23 @@ module _ (l : Limits) (file work out : List ℕ) where
       back-read : drop (most-stream l) (read-work l file work) ≡ drop (most-stream l) work
       back-read = ap (drop (most-stream l)) work-read ∙ drop-at (zero-filled l file) (drop (most-stream l) work) (most-stream l) (filled-long file good)
 
-      read-ready : Ready l (take (most-stream l) (read-work l file work))
-      read-ready = subst (Ready l) (sym front-read) (filled-ready file good)
+      read-ready : Sound l → Ready (take (most-stream l) (read-work l file work))
+      read-ready sound = subst Ready (sym front-read) (filled-ready file good sound)
 
       read-job : job-of (take (most-stream l) (read-work l file work)) ≡ job-in file
       unfolding job-in
       read-job = ap job-of front-read ∙ filled-job file good
 
       -- the work memory after the read, and the report memory, are what the job needs
-      pub held-ready : (work₁ : List ℕ) → work₁ ≡ read-work l file work → length work₁ ≡ length work → (most-stream l ≤ length work₁) × Ready l (take (most-stream l) work₁) × (l .report ≤ length out)
-      unfolding small-work
-      held-ready work₁ e size =
+      pub held-ready : Sound l → Bytes file → (work₁ : List ℕ) → work₁ ≡ read-work l file work → length work₁ ≡ length work → (most-stream l ≤ length work₁) × Ready (take (most-stream l) work₁) × (length (report (job-of (take (most-stream l) work₁))) ≤ length out)
+      unfolding small-work report-of
+      held-ready sound b work₁ e size =
           let h : most-stream l ≤ length work = less-le not-small in
-          (omega arith, subst (λ w. Ready l (take (most-stream l) w)) (sym e) read-ready, big)
+          let same-job : job-of (take (most-stream l) work₁) ≡ job-in file = ap (λ (w : List ℕ). job-of (take (most-stream l) w)) e ∙ read-job in (
+            omega arith,
+            subst (λ w. Ready (take (most-stream l) w)) (sym e) (read-ready sound),
+            omega (arith, ap (λ (j : Job). length (report j)) same-job, report-short sound file file-accepted b),
+          )
 
       pub accepted-replied : {number size : ℕ} {out′ work′ : List ℕ} (work₁ : List ℕ) → work₁ ≡ read-work l file work → number ≡ 0 → Reported out out′ size (report (job-of (take (most-stream l) work₁))) → work′ ≡ zeros (most-stream l) ++ drop (most-stream l) work₁ → Replied l file work out number size out′ work′
       unfolding replay-length replay-report replay-work report-of laid held zeros-behind zeros

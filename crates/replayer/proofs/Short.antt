@@ -1,24 +1,42 @@
 -- The report of an accepted file of bytes is at most as long as the least report memory. Assumes nothing.
-use mathlib.Core.Path.{_≡_, ap}
-use Prim.Native.Nat.{ℕ, _≤_}
+use mathlib.Core.Path.{_≡_}
+use Prim.Native.Nat.{ℕ, suc, _+_, _*_, _≤_}
 use native.Mathlib.Omega.{arith}
 use mathlib.Core.List.{List}
 use lib.ListN.{length}
-use Rattle.basics.specs.Maps.{at}
 use Rattle.basics.specs.Bytes.{Bytes}
+use Rattle.basics.specs.Maps.{at}
+use Rattle.basics.specs.Words.{word}
 use Rattle.job.specs.declared.Limits.{Limits}
-use Rattle.job.specs.Limits.{Sound}
-use Rattle.job.specs.File.{stream-of, file-refusal, zero-filled}
-use Rattle.job.specs.Job.{Job, job-of}
+use Rattle.job.specs.Limits.{field, Sound}
+use Rattle.job.specs.Stream.{operations, schedule-length, process, record-at, value}
+use Rattle.job.specs.File.{stream-of, file-refusal}
+use Rattle.job.specs.Job.{job-of}
 use Rattle.job.proofs.Accepted.{Good-file, accepted-good}
-use Rattle.job.proofs.View.{filled-job, filled-ready, filled-bytes}
+use Rattle.job.proofs.Padded.{fine-counts}
+use Rattle.job.proofs.View.{stream-good, stream-bytes}
 use Rattle.wording.specs.Report.{report}
+use Rattle.wording.proofs.Sizes.{Fits, report-bounded}
 use Rattle.replayer.specs.Replay.{job-in, report-of}
-use Rattle.replayer.proofs.Ready.{report-fits}
+
+-- bytes make numbers of their size
+fits : (s : List ℕ) → Bytes s → operations s ≤ field .operations → schedule-length s ≤ field .steps → Fits (job-of s)
+unfolding job-of process record-at value word
+fits s b few short =
+    record {
+      operations = omega (arith, few);
+      steps = omega (arith, short);
+      owners = λ o op. b .byte (2 + 4 * o);
+      values = λ o op. omega (arith, b .byte (2 + 4 * o + 2), b .byte (suc (2 + 4 * o + 2)));
+    }
 
 pub report-short : {l : Limits} → Sound l → (file : List ℕ) → file-refusal l file ≡ 0 → Bytes file → length (report-of file) ≤ l .report
-unfolding report-of job-in at
+unfolding report-of job-in job-of
 report-short {l} sound file accepted b =
     let g : Good-file l file = accepted-good l file accepted in
-    let same-length : length (report (job-of (zero-filled l file))) ≡ length (report (job-of (stream-of file))) = ap (λ (j : Job). length (report j)) (filled-job file g) in
-    omega (arith, report-fits sound (filled-ready file g) (filled-bytes file g b .byte))
+    let counts = fine-counts (stream-good file g .fine) in
+    let few : operations (stream-of file) ≤ l .operations = counts .0 in
+    let short : schedule-length (stream-of file) ≤ l .steps = counts .1 in
+    let bound : length (report (job-of (stream-of file))) ≤ 22 + 102 * operations (stream-of file) =
+    report-bounded (job-of (stream-of file)) (fits (stream-of file) (stream-bytes file b) (omega (arith, sound .rows)) (omega (arith, sound .cells))) in
+    omega (arith, sound .report-fits)

@@ -18,100 +18,36 @@ ghost use Rattle.report.specs.Columns.{Reported};
 ghost use Rattle.replayer.specs.Replay.{job-in, replay-number, replay-length, replay-report, replay-work};
 
 // Runs the job of a stream in blank lent memory, and writes its report.
-fn replay_in(
-    limits: Limits,
-    stream: &[u8],
-    next: &mut [u16],
-    mark: &mut [u16],
-    first: &mut [u16],
-    last: &mut [u16],
-    start: &mut [u16],
-    link: &mut [u16],
-    taken: &mut [u16],
-    stands: &mut [u16],
-    by: &mut [u16],
-    out: &mut [u8],
-) -> usize
-    requires { ⌜ Ready limits (now stream) × (limits .report ≤ length (now out)) × Sound limits ⌝ }
-    requires { ⌜ Room (now next) (now mark) (now first) (now last) (now start) (now link) (now taken) (now stands) (now by) ⌝ }
-    requires { ⌜ AllBlank (now next) (now mark) (now first) (now last) (now start) (now link) (now taken) (now stands) (now by) ⌝ }
+fn replay_in(stream: &[u8], nodes: &mut [u16], ops: &mut [u16], by: &mut [u16], out: &mut [u8]) -> usize
+    requires { ⌜ Ready (now stream) × (length (Report.report (job-of (now stream))) ≤ length (now out)) ⌝ }
+    requires { ⌜ Room (now nodes) (now ops) (now by) × AllBlank (now nodes) (now ops) (now by) ⌝ }
     ensures { λ r. ⌜ Reported (now (out .entry)) (now (out .exit)) r (Report.report (job-of (now (stream .entry)))) ⌝ }
 {
-    let object = job::object_of(stream);
-    let count = job::operations(stream);
-    let steps = job::schedule_length(stream);
-    let end = run::run_all(
-        stream,
-        object,
-        count,
-        steps,
-        next,
-        mark,
-        first,
-        last,
-        start,
-        link,
-        taken,
-        stands,
-        by,
-    );
-    report::write_report(
-        out,
-        stream,
-        first,
-        last,
-        start,
-        link,
-        taken,
-        stands,
-        by,
-        next,
-        mark,
-        end.head,
-        end.top,
-        end.reach,
-    )
+    let job = job::heading_of(stream);
+    let end = run::run_all(stream, job, nodes, ops, by);
+    report::write_report(out, stream, job, ops, by, nodes, end)
 }
 
 // The report of the job of a stream, in fresh memory.
-fn replay_stream(limits: Limits, stream: &[u8], out: &mut [u8]) -> usize
-    requires { ⌜ Ready limits (now stream) × (limits .report ≤ length (now out)) × Sound limits ⌝ }
+fn replay_stream(stream: &[u8], out: &mut [u8]) -> usize
+    requires { ⌜ Ready (now stream) × (length (Report.report (job-of (now stream))) ≤ length (now out)) ⌝ }
     ensures { λ r. ⌜ Reported (now (out .entry)) (now (out .exit)) r (Report.report (job-of (now (stream .entry)))) ⌝ }
 {
-    let mut next = [0u16; Object::NODES];
-    let mut mark = [0u16; Object::NODES];
-    let mut first = [0u16; Object::NODES];
-    let mut last = [0u16; Object::NODES];
-    let mut start = [0u16; Object::NODES];
-    let mut link = [0u16; Object::NODES];
-    let mut taken = [0u16; Object::NODES];
-    let mut stands = [0u16; Object::NODES];
+    let mut nodes = [0u16; Object::ROWS];
+    let mut ops = [0u16; Object::ROWS];
     let mut by = [0u16; Object::STEPS];
-    replay_in(
-        limits,
-        stream,
-        &mut next,
-        &mut mark,
-        &mut first,
-        &mut last,
-        &mut start,
-        &mut link,
-        &mut taken,
-        &mut stands,
-        &mut by,
-        out,
-    )
+    replay_in(stream, &mut nodes, &mut ops, &mut by, out)
 }
 
 // The report of the job whose stream, with zeros behind it, the work memory holds. It is cleared afterwards.
 fn replay_held(limits: Limits, work: &mut [u8], report: &mut [u8]) -> usize
     requires { ⌜ Sound limits ⌝ }
-    requires { ⌜ (most-stream limits ≤ length (now work)) × Ready limits (take (most-stream limits) (now work)) × (limits .report ≤ length (now report)) ⌝ }
+    requires { ⌜ (most-stream limits ≤ length (now work)) × Ready (take (most-stream limits) (now work)) × (length (Report.report (job-of (take (most-stream limits) (now work)))) ≤ length (now report)) ⌝ }
     ensures told { λ r. ⌜ Reported (now (report .entry)) (now (report .exit)) r (Report.report (job-of (take (most-stream limits) (now (work .entry))))) ⌝ }
     ensures cleared { λ r. ⌜ now (work .exit) ≡ zeros (most-stream limits) ++ drop (most-stream limits) (now (work .entry)) ⌝ }
 {
     let end = limits.most_stream();
-    let length = replay_stream(limits, &work[..end], report);
+    let length = replay_stream(&work[..end], report);
     clear(&mut work[..end]);
     length
 }
