@@ -1,4 +1,4 @@
--- Facts of every run that let a report be written from arrays: answers by link and item, items that are operations, who makes a step,
+-- Facts of every run that let a report be written from rows: answers by link and item, items that are operations, who makes a step,
 -- what an operation without link and item did, and that idle steps have no line. Assumes nothing.
 use mathlib.Core.Path.{_≡_, sym, ap, subst, _∙_}
 use mathlib.Core.Logic.{_≢_, _⊎_, inl, inr, ⊎-elim}

@@ -1,6 +1,6 @@
--- What every run is known to do, as far as its report needs it, and the texts that the arrays give.
+-- What every run is known to do, as far as its report needs it, and the texts that the rows give.
 pub mod Facts
 pub mod Operations
-pub mod Steps
+pub mod Found
 pub mod Left
 pub mod Whole

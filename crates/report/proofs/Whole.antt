@@ -1,39 +1,66 @@
--- The pieces of the report, and what the arrays hold for each. Assumes nothing.
-use mathlib.Core.Path.{_≡_, ap, _∙_}
-use Prim.Native.Nat.{ℕ}
+-- What a run leaves gives each part of its report, and the parts are the whole. Assumes nothing.
+use mathlib.Core.Path.{_≡_, refl, sym, ap, ap₂, subst, _∙_}
+use Prim.Native.Nat.{ℕ, _≤_, _<_}
 use native.Mathlib.Nat.{zero-add}
+use native.Mathlib.Omega.{arith}
 use mathlib.Core.List.{List, _++_}
 use lib.ListN.{length}
+use Rattle.basics.specs.Maps.{at}
+use Rattle.rows.specs.Rows.{HasRows}
+use Rattle.rows.specs.Operations.{cells}
 use Rattle.text.specs.Laid.{Wrote}
-use Rattle.job.specs.declared.Kind.{Kind}
-use Rattle.job.specs.Stream.{operations}
-use Rattle.job.specs.Job.{Job, job-of}
-use Rattle.machine.specs.Idle.{IdleBehind}
-use Rattle.machine.specs.Record.{Recorded, run-lines, the-record}
+use Rattle.job.specs.declared.Heading.{Heading}
+use Rattle.job.specs.Job.{Job, heading-of}
+use Rattle.machine.specs.declared.Finish.{Finish}
+use Rattle.machine.specs.Record.{Recorded, the-record}
 use Rattle.machine.specs.Left.{left}
 use Rattle.wording.specs.Report.{object-line, operation-lines, record-lines, left-line, report}
-use Rattle.report.specs.Columns.{HoldsRun, HoldsAnswers, HoldsEffects, Reported}
+use Rattle.journal.specs.Journal.{Agrees}
+use Rattle.lines.specs.Members.{first-node, left-from, NodesThere}
+use Rattle.report.specs.Found.{found-lines, Within}
+use Rattle.report.specs.Reported.{Leaves, Reported}
 use Rattle.report.proofs.Facts.{all-lines-to-reach}
+use Rattle.report.proofs.Found.{maker-within, lines-held}
+use Rattle.report.proofs.Operations.{item-in-range}
+use Rattle.report.proofs.Left.{head-within, nodes-held, left-held}
 
--- the stream's own count is the job's
-pub count-of-job : (s : List ℕ) {n : ℕ} → n ≡ operations s → n ≡ job-of s .count
-unfolding job-of
-count-of-job s e = e
+-- where the items that are left begin has a row
+pub head-there : {j : Job} {h : Heading} {ops by nodes : List ℕ} {end : Finish} → Leaves j h ops by nodes end → HasRows (end .head) nodes
+head-there {j} {h} {nodes} {end} l =
+    omega (arith, head-within j (h .steps) (end .head) (end .tail) (end .top) nodes (l .memory), ap (λ (x : Heading). x .count) (l .heading), l .has-nodes)
 
-module _ (j : Job) {object : Kind} {count reach : ℕ} (of : object ≡ j .object) (all : count ≡ j .count) (behind : IdleBehind j reach (j .steps)) where
-  pub report-pieces : object-line object ++ operation-lines j (j .steps) count ++ record-lines (run-lines j (j .steps) reach) ++ left-line (left j (j .steps)) ≡ report j
-  unfolding report the-record
-  report-pieces =
-      ap (λ (o : Kind). object-line o ++ operation-lines j (j .steps) count ++ record-lines (run-lines j (j .steps) reach) ++ left-line (left j (j .steps))) of
-      ∙ ap (λ (n : ℕ). object-line (j .object) ++ operation-lines j (j .steps) n ++ record-lines (run-lines j (j .steps) reach) ++ left-line (left j (j .steps))) all
-      ∙ ap (λ (l : List Recorded). object-line (j .object) ++ operation-lines j (j .steps) (j .count) ++ record-lines l ++ left-line (left j (j .steps))) (all-lines-to-reach j behind)
+-- what the parts of a report ask, and that they are the whole in their order
+pub record Parts (j : Job) (h : Heading) (ops by nodes : List ℕ) (reach node : ℕ) : Type 0 where
+  pub count : h .count ≡ j .count
+  pub agrees : Agrees j (j .steps) (cells ops)
+  pub within : Within ops by (h .count) reach
+  pub nodes-there : NodesThere nodes (h .count) node
+  pub whole : object-line (h .object) ++ operation-lines j (j .steps) (h .count) ++ record-lines (found-lines (cells ops) (at by) (h .count) reach) ++ left-line (left-from (h .object) nodes node (h .count)) ≡ report j
 
-module _ {j : Job} {k : ℕ} {first last start link taken stands by : List ℕ} (h : HoldsRun j k first last start link taken stands by) where
-  pub answers-held : HoldsAnswers j k first last link taken
-  answers-held = record { firsts = h .firsts; lasts = h .lasts; links = h .links; items = h .items }
+-- of the job's own heading
+parts-of-job : (j : Job) {ops by nodes : List ℕ} {end : Finish} → Leaves j (heading-of j) ops by nodes end → Parts j (heading-of j) ops by nodes (end .reach .0) (first-node (j .object) nodes (end .head) (end .top))
+unfolding report the-record
+parts-of-job j {ops} {by} {nodes} {end} l =
+    record {
+      count = refl;
+      agrees = l .journal .agrees;
+      within = record {
+        has-ops = l .has-ops;
+        has-steps = omega (arith, l .has-steps, l .behind .within);
+        makers = λ s low high. maker-within j (l .journal) s low (omega (arith, l .behind .within));
+        items = λ o low high. item-in-range j (j .steps) (l .journal .agrees) o (record { from-one = low; to-count = high });
+      };
+      nodes-there = nodes-held j (j .steps) (end .head) (end .tail) (end .top) nodes (l .memory) (l .has-nodes);
+      whole =
+          ap₂ (λ (r : List Recorded) (items : List ℕ). object-line (j .object) ++ operation-lines j (j .steps) (j .count) ++ record-lines r ++ left-line items)
+          (lines-held j (l .journal) (end .reach .0) (l .behind .within) ∙ all-lines-to-reach j (l .behind))
+          (left-held j (j .steps) (end .head) (end .tail) (end .top) nodes (l .memory));
+    }
 
-  pub effects-held : HoldsEffects j k last start link taken stands
-  effects-held = record { lasts = h .lasts; starts = h .starts; links = h .links; items = h .items; lines = h .lines }
+pub parts : {j : Job} {h : Heading} {ops by nodes : List ℕ} {end : Finish} {node : ℕ} → Leaves j h ops by nodes end → node ≡ first-node (h .object) nodes (end .head) (end .top) → Parts j h ops by nodes (end .reach .0) node
+parts {j} {h} {ops} {by} {nodes} {end} l first =
+    subst (Parts j h ops by nodes (end .reach .0)) (sym first)
+    (subst (λ (x : Heading). Parts j x ops by nodes (end .reach .0) (first-node (x .object) nodes (end .head) (end .top))) (sym (l .heading)) (parts-of-job j (subst (λ (x : Heading). Leaves j x ops by nodes end) (l .heading) l)))
 
 pub reported : {before after bytes : List ℕ} {told : ℕ} → Wrote before after 0 told bytes → Reported before after told bytes
 reported {bytes} w = record { writes = w .lays; tells = w .behind ∙ zero-add (length bytes) }

@@ -1,2 +1,3 @@
--- What the arrays of a finished run hold.
-pub mod Columns
+-- What stands at a step, what a run leaves for its report, and what a report leaves.
+pub mod Found
+pub mod Reported

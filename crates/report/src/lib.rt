@@ -1,78 +1,40 @@
-// The report of a finished run, from the arrays that it leaves.
+// The report of a finished run, from the rows and cells that it leaves.
+use job::Heading;
 use job::Kind;
+use job::Limits;
 use job::Operation;
 use job::Step;
-use job::object_of;
-use job::operations;
+use lines::Found;
 use lines::bound_takers;
-use lines::empty_line;
+use lines::lay;
 use lines::left_line;
 use lines::object_line;
 use lines::operation_line;
-use lines::put_line;
-use lines::take_line;
+use machine::Finish;
+use rows::cell;
 ghost use mathlib.Core.Path.{_≡_};
 ghost use Prim.Native.Nat.{_+_, _≤_, _<_};
 ghost use lib.ListN.{length};
 ghost use Rattle.basics.specs.Maps as Maps;
+ghost use Rattle.rows.specs.Rows.{HasRows};
+ghost use Rattle.rows.specs.Operations.{cells};
+ghost use Rattle.rows.specs.Operations.Column.{Taken};
 ghost use Rattle.text.specs.Laid.{Wrote};
+ghost use Rattle.job.specs.Limits.{field};
 ghost use Rattle.job.specs.Stream.{stream-length};
 ghost use Rattle.job.specs.Job.{job-of};
+ghost use Rattle.journal.specs.Journal.{Agrees};
 ghost use Rattle.lines.specs.Members.{Bounds, «first-node»};
-ghost use Rattle.machine.specs.Run.{state-after};
-ghost use Rattle.machine.specs.Notes.{note};
-ghost use Rattle.machine.specs.Idle.{IdleBehind};
-ghost use Rattle.machine.specs.Record.{run-line, run-lines};
-ghost use Rattle.machine.specs.Left.{left};
-ghost use Rattle.machine.specs.Explained as Explained;
-ghost use Rattle.wording.specs.Report.{operation-line, operation-lines, record-lines, left-line, report};
-ghost use Rattle.report.specs.Columns.{MadeBy, Column, HoldsRun, HoldsAnswers, HoldsEffects, Remembers, Reported};
+ghost use Rattle.wording.specs.Report.{operation-lines, record-lines, report};
+ghost use Rattle.report.specs.Found.{here, found, found-lines, Within};
+ghost use Rattle.report.specs.Reported.{Leaves, Reported};
 
-// The items whose takers are looked for between bounds: as many as a job has. Of any other, all operations are looked at.
-const ITEMS: usize = 257;
-
-// The line of an operation, by the arrays.
-fn line_of(
-    out: &mut [u8],
-    at: usize,
-    stream: &[u8],
-    first: &[u16],
-    last: &[u16],
-    link: &[u16],
-    taken: &[u16],
-    o: Operation,
-) -> usize
-    requires { ⌜ (stream-length (now stream) ≤ length (now stream)) × Explained.IsOperation (job-of (now stream) .count) (o .0) ⌝ }
-    requires { ⌜ HoldsAnswers (job-of (now stream)) (job-of (now stream) .steps) (now first) (now last) (now link) (now taken) ⌝ }
-    requires { ⌜ at + length (operation-line (job-of (now stream)) (job-of (now stream) .steps) (o .0)) ≤ length (now out) ⌝ }
-    ensures { λ r. ⌜ Wrote (now (out .entry)) (now (out .exit)) at r (operation-line (job-of (now (stream .entry))) (job-of (now (stream .entry)) .steps) (o .0)) ⌝ }
-{
-    let i = o.0 as usize;
-    operation_line(
-        out,
-        at,
-        stream,
-        o,
-        Step(first[i]),
-        Step(last[i]),
-        Step(link[i]),
-        Operation(taken[i]),
-    )
-}
+// The cells of the bounds of takers: a row for each operation.
+const BOUNDS: usize = rows::ROW * (Limits::OPERATIONS + 1);
 
 // The lines of operations, in number order.
-fn operation_lines(
-    out: &mut [u8],
-    at: usize,
-    stream: &[u8],
-    first: &[u16],
-    last: &[u16],
-    link: &[u16],
-    taken: &[u16],
-    count: u16,
-) -> usize
-    requires { ⌜ (stream-length (now stream) ≤ length (now stream)) × (count ≡ job-of (now stream) .count) ⌝ }
-    requires { ⌜ HoldsAnswers (job-of (now stream)) (job-of (now stream) .steps) (now first) (now last) (now link) (now taken) ⌝ }
+fn operation_lines(out: &mut [u8], at: usize, stream: &[u8], ops: &[u16], count: u16) -> usize
+    requires { ⌜ (stream-length (now stream) ≤ length (now stream)) × (count ≡ job-of (now stream) .count) × HasRows count (now ops) × Agrees (job-of (now stream)) (job-of (now stream) .steps) (cells (now ops)) ⌝ }
     requires { ⌜ at + length (operation-lines (job-of (now stream)) (job-of (now stream) .steps) count) ≤ length (now out) ⌝ }
     ensures { λ r. ⌜ Wrote (now (out .entry)) (now (out .exit)) at r (operation-lines (job-of (now (stream .entry))) (job-of (now (stream .entry)) .steps) count) ⌝ }
 {
@@ -80,249 +42,116 @@ fn operation_lines(
     let mut o: u16 = 0;
     while o < count {
         o += 1;
-        place = line_of(out, place, stream, first, last, link, taken, Operation(o));
+        place = operation_line(out, place, stream, ops, Operation(o));
     }
     place
 }
 
-// The effect of the operation that made a step, if it stands there, by the arrays.
-fn step_line(
-    out: &mut [u8],
-    at: usize,
-    stream: &[u8],
-    last: &[u16],
-    start: &[u16],
-    link: &[u16],
-    taken: &[u16],
-    skip: &[u16],
-    beyond: &[u16],
-    stands: &[u16],
-    count: u16,
-    s: Step,
-    o: Operation,
-) -> usize
-    requires { ⌜ MadeBy (job-of (now stream)) count (s .0) (o .0) × HoldsEffects (job-of (now stream)) (job-of (now stream) .steps) (now last) (now start) (now link) (now taken) (now stands) × Bounds (Maps.at (now taken)) count (Maps.at (now skip)) (Maps.at (now beyond)) ⌝ }
-    requires { ⌜ at + length (record-lines (run-line (job-of (now stream)) (job-of (now stream) .steps) (s .0))) ≤ length (now out) ⌝ }
-    ensures { λ r. ⌜ Wrote (now (out .entry)) (now (out .exit)) at r (record-lines (run-line (job-of (now (stream .entry))) (job-of (now (stream .entry)) .steps) (s .0))) ⌝ }
+// What stands at a step, if its own step is this one.
+fn here(own: u16, s: Step, found: Found) -> Found
+    ensures { λ r. ⌜ r ≡ here own (s .0) found ⌝ }
 {
-    let i = o.0 as usize;
-    let linked = link[i];
-    if linked != 0 {
-        if linked != s.0 {
-            return at;
-        }
-        return put_line(out, at, s, o);
+    if own == s.0 {
+        return found;
     }
-    let item = taken[i];
+    Found::Nothing
+}
+
+// What stands at a step, by the row of the operation that made it: none of an idle step.
+fn found_at(ops: &[u16], s: Step, o: Operation) -> Found
+    requires { ⌜ HasRows (o .0) (now ops) × (1 ≤ o .0 → HasRows (cells (now ops) Taken (o .0)) (now ops)) ⌝ }
+    ensures { λ r. ⌜ r ≡ found (cells (now (ops .entry))) (s .0) o ⌝ }
+{
+    if o.0 == 0 {
+        return Found::Nothing;
+    }
+    let link = cell(ops, o.0, rows::LINK);
+    if link != 0 {
+        return here(link, s, Found::Put(o));
+    }
+    let item = cell(ops, o.0, rows::TAKEN);
     if item != 0 {
-        if stands[item as usize] != s.0 {
-            return at;
-        }
-        return take_line(out, at, s, taken, skip, beyond, count, Operation(item));
+        return here(
+            cell(ops, item, rows::STANDS),
+            s,
+            Found::Takers(Operation(item)),
+        );
     }
-    if last[i] != 0 {
-        if start[i] == s.0 {
-            return empty_line(out, at, s, o);
-        }
+    if cell(ops, o.0, rows::LAST) == 0 {
+        return Found::Nothing;
     }
-    at
+    here(cell(ops, o.0, rows::START), s, Found::Empty(o))
 }
 
-// The line of a step, if there is one: none of an idle step.
-fn line_at(
+// The lines of the steps up to `reach`, in step order, with bounds on where each item's takers are.
+fn step_lines(
     out: &mut [u8],
     at: usize,
-    stream: &[u8],
-    last: &[u16],
-    start: &[u16],
-    link: &[u16],
-    taken: &[u16],
-    skip: &[u16],
-    beyond: &[u16],
-    stands: &[u16],
+    ops: &[u16],
     by: &[u16],
-    count: u16,
-    s: Step,
-) -> usize
-    requires { ⌜ (count ≡ job-of (now stream) .count) × Column 1 (job-of (now stream) .steps) (now by) (λ s. note (job-of (now stream)) s .by) × (1 ≤ s .0) × (s .0 ≤ job-of (now stream) .steps) × Bounds (Maps.at (now taken)) count (Maps.at (now skip)) (Maps.at (now beyond)) ⌝ }
-    requires { ⌜ HoldsEffects (job-of (now stream)) (job-of (now stream) .steps) (now last) (now start) (now link) (now taken) (now stands) ⌝ }
-    requires { ⌜ at + length (record-lines (run-line (job-of (now stream)) (job-of (now stream) .steps) (s .0))) ≤ length (now out) ⌝ }
-    ensures { λ r. ⌜ Wrote (now (out .entry)) (now (out .exit)) at r (record-lines (run-line (job-of (now (stream .entry))) (job-of (now (stream .entry)) .steps) (s .0))) ⌝ }
-{
-    let o = by[s.0 as usize];
-    if o == 0 {
-        return at;
-    }
-    step_line(
-        out,
-        at,
-        stream,
-        last,
-        start,
-        link,
-        taken,
-        skip,
-        beyond,
-        stands,
-        count,
-        s,
-        Operation(o),
-    )
-}
-
-// The record up to step `reach`, in step order, with bounds on where each item's takers are.
-fn bounded_lines(
-    out: &mut [u8],
-    at: usize,
-    stream: &[u8],
-    last: &[u16],
-    start: &[u16],
-    link: &[u16],
-    taken: &[u16],
-    skip: &[u16],
-    beyond: &[u16],
-    stands: &[u16],
-    by: &[u16],
+    bounds: &[u16],
     count: u16,
     reach: Step,
 ) -> usize
-    requires { ⌜ (count ≡ job-of (now stream) .count) × (reach .0 ≤ job-of (now stream) .steps) × Column 1 (job-of (now stream) .steps) (now by) (λ s. note (job-of (now stream)) s .by) × Bounds (Maps.at (now taken)) count (Maps.at (now skip)) (Maps.at (now beyond)) ⌝ }
-    requires { ⌜ HoldsEffects (job-of (now stream)) (job-of (now stream) .steps) (now last) (now start) (now link) (now taken) (now stands) ⌝ }
-    requires { ⌜ at + length (record-lines (run-lines (job-of (now stream)) (job-of (now stream) .steps) (reach .0))) ≤ length (now out) ⌝ }
-    ensures { λ r. ⌜ Wrote (now (out .entry)) (now (out .exit)) at r (record-lines (run-lines (job-of (now (stream .entry))) (job-of (now (stream .entry)) .steps) (reach .0))) ⌝ }
+    requires { ⌜ Within (now ops) (now by) count (reach .0) × Bounds (now ops) (now bounds) count × (at + length (record-lines (found-lines (cells (now ops)) (Maps.at (now by)) count (reach .0))) ≤ length (now out)) ⌝ }
+    ensures { λ r. ⌜ Wrote (now (out .entry)) (now (out .exit)) at r (record-lines (found-lines (cells (now (ops .entry))) (Maps.at (now (by .entry))) count (reach .0))) ⌝ }
 {
     let mut place = at;
     let mut s: u16 = 0;
     while s < reach.0 {
         s += 1;
-        place = line_at(
-            out,
-            place,
-            stream,
-            last,
-            start,
-            link,
-            taken,
-            skip,
-            beyond,
-            stands,
-            by,
-            count,
-            Step(s),
-        );
+        let found = found_at(ops, Step(s), Operation(by[s as usize]));
+        place = lay(out, place, ops, bounds, count, Step(s), found);
     }
     place
 }
 
-// The record up to step `reach`, in step order.
+// The record up to step `reach`.
 fn record_lines(
     out: &mut [u8],
     at: usize,
-    stream: &[u8],
-    last: &[u16],
-    start: &[u16],
-    link: &[u16],
-    taken: &[u16],
-    stands: &[u16],
+    ops: &[u16],
     by: &[u16],
     count: u16,
     reach: Step,
 ) -> usize
-    requires { ⌜ (count ≡ job-of (now stream) .count) × (reach .0 ≤ job-of (now stream) .steps) × Column 1 (job-of (now stream) .steps) (now by) (λ s. note (job-of (now stream)) s .by) ⌝ }
-    requires { ⌜ HoldsEffects (job-of (now stream)) (job-of (now stream) .steps) (now last) (now start) (now link) (now taken) (now stands) ⌝ }
-    requires { ⌜ at + length (record-lines (run-lines (job-of (now stream)) (job-of (now stream) .steps) (reach .0))) ≤ length (now out) ⌝ }
-    ensures { λ r. ⌜ Wrote (now (out .entry)) (now (out .exit)) at r (record-lines (run-lines (job-of (now (stream .entry))) (job-of (now (stream .entry)) .steps) (reach .0))) ⌝ }
+    requires { ⌜ (count ≤ field .operations) × Within (now ops) (now by) count (reach .0) × (at + length (record-lines (found-lines (cells (now ops)) (Maps.at (now by)) count (reach .0))) ≤ length (now out)) ⌝ }
+    ensures { λ r. ⌜ Wrote (now (out .entry)) (now (out .exit)) at r (record-lines (found-lines (cells (now (ops .entry))) (Maps.at (now (by .entry))) count (reach .0))) ⌝ }
 {
-    let mut skip = [0u16; ITEMS];
-    let mut beyond = [0u16; ITEMS];
-    bound_takers(&mut skip, &mut beyond, taken, count);
-    bounded_lines(
-        out,
-        at,
-        stream,
-        last,
-        start,
-        link,
-        taken,
-        &skip,
-        &beyond,
-        stands,
-        by,
-        count,
-        reach,
-    )
+    let mut bounds = [0u16; BOUNDS];
+    bound_takers(&mut bounds, ops, count);
+    step_lines(out, at, ops, by, &bounds, count, reach)
 }
 
 // The node from which the items that are left are walked.
-fn first_node(object: Kind, next: &[u16], head: u16, top: u16) -> u16
-    requires { ⌜ head < length (now next) ⌝ }
-    ensures { λ r. ⌜ r ≡ first-node object (Maps.at (now (next .entry))) head top ⌝ }
+fn first_node(object: Kind, nodes: &[u16], head: u16, top: u16) -> u16
+    requires { ⌜ HasRows head (now nodes) ⌝ }
+    ensures { λ r. ⌜ r ≡ first-node object (now (nodes .entry)) head top ⌝ }
 {
     match object {
-        Kind::Queue => next[head as usize],
+        Kind::Queue => cell(nodes, head, rows::NEXT),
         Kind::Stack => top,
     }
 }
 
-// What is left, read from the shared memory.
-fn left_of(
-    out: &mut [u8],
-    at: usize,
-    stream: &[u8],
-    object: Kind,
-    next: &[u16],
-    mark: &[u16],
-    head: u16,
-    top: u16,
-    count: u16,
-) -> usize
-    requires { ⌜ (object ≡ job-of (now stream) .object) × (count ≡ job-of (now stream) .count) ⌝ }
-    requires { ⌜ Remembers count (state-after (job-of (now stream)) (job-of (now stream) .steps) .memory) (now next) (now mark) head top ⌝ }
-    requires { ⌜ at + length (left-line (left (job-of (now stream)) (job-of (now stream) .steps))) ≤ length (now out) ⌝ }
-    ensures { λ r. ⌜ Wrote (now (out .entry)) (now (out .exit)) at r (left-line (left (job-of (now (stream .entry))) (job-of (now (stream .entry)) .steps))) ⌝ }
-{
-    let node = first_node(object, next, head, top);
-    left_line(out, at, object, next, mark, node, count)
-}
-
-// The report of a finished run, at the front of a memory, and its length. Steps behind `reach` are idle and have no line.
+// The report of a finished run, at the front of a memory, and its length. Steps behind `end.reach` are idle and have no line.
 pub fn write_report(
     out: &mut [u8],
     stream: &[u8],
-    first: &[u16],
-    last: &[u16],
-    start: &[u16],
-    link: &[u16],
-    taken: &[u16],
-    stands: &[u16],
+    h: Heading,
+    ops: &[u16],
     by: &[u16],
-    next: &[u16],
-    mark: &[u16],
-    head: u16,
-    top: u16,
-    reach: Step,
+    nodes: &[u16],
+    end: Finish,
 ) -> usize
-    requires { ⌜ HoldsRun (job-of (now stream)) (job-of (now stream) .steps) (now first) (now last) (now start) (now link) (now taken) (now stands) (now by) ⌝ }
-    requires { ⌜ Remembers (job-of (now stream) .count) (state-after (job-of (now stream)) (job-of (now stream) .steps) .memory) (now next) (now mark) head top ⌝ }
-    requires { ⌜ (stream-length (now stream) ≤ length (now stream)) × (length (report (job-of (now stream))) ≤ length (now out)) × IdleBehind (job-of (now stream)) (reach .0) (job-of (now stream) .steps) ⌝ }
+    requires { ⌜ (stream-length (now stream) ≤ length (now stream)) × (length (report (job-of (now stream))) ≤ length (now out)) × Leaves (job-of (now stream)) h (now ops) (now by) (now nodes) end ⌝ }
     ensures { λ r. ⌜ Reported (now (out .entry)) (now (out .exit)) r (report (job-of (now (stream .entry)))) ⌝ }
 {
-    let object = object_of(stream);
-    let count = operations(stream);
-    let at = object_line(out, 0, object);
-    let at = operation_lines(out, at, stream, first, last, link, taken, count);
-    let at = record_lines(
-        out,
-        at,
-        stream,
-        last,
-        start,
-        link,
-        taken,
-        stands,
-        by,
-        count,
-        reach,
-    );
-    left_of(out, at, stream, object, next, mark, head, top, count)
+    let object = h.object;
+    let reach = end.reach;
+    let node = first_node(object, nodes, end.head, end.top);
+    let place = object_line(out, 0, object);
+    let place = operation_lines(out, place, stream, ops, h.count);
+    let place = record_lines(out, place, ops, by, h.count, reach);
+    left_line(out, place, object, nodes, node, h.count)
 }
