@@ -3,24 +3,10 @@ use Prim.Native.Nat.{ℕ, suc, _+_, _*_, _≤_, _<_}
 use native.Mathlib.Omega.{arith}
 use mathlib.Core.List.{List}
 use lib.ListN.{length}
-use Rattle.block.specs.Block.{block-size, payload-size}
 use Rattle.job.specs.declared.Limits.{Limits}
-use Rattle.job.specs.Limits.{field, most-stream, Sound}
+use Rattle.job.specs.Limits.{field, Sound}
 use Rattle.job.specs.Stream.{operations, schedule-length, record-at, scheduled, stream-length}
 use Rattle.job.specs.Ready.{Ready}
-
-pub field-sound : Sound field
-unfolding most-stream payload-size
-field-sound =
-    record {
-      stream-fits = omega arith;
-      behind-fits = omega arith;
-      blocks-fit = omega arith;
-      places = omega arith;
-      rows = omega arith;
-      cells = omega arith;
-      report-fits = omega arith;
-    }
 
 module _ {l : Limits} (sound : Sound l) {s : List ℕ} (r : Ready l s) where
   pub stream-there : stream-length s ≤ length s
