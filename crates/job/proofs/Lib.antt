@@ -10,6 +10,7 @@ pub mod Pieces
 pub mod Alike
 pub mod View
 pub mod Ready
+pub mod Field
 pub mod Written
 pub mod Restored
 pub mod OneFile

@@ -68,10 +68,10 @@ module _ (s t : List ℕ) (h : Bytes s) (k : Bytes t) (j : Same-job s t) where
   same-stream p q =
       ext-getD 0 s t (p ∙ ap₂ (λ (n l : ℕ). 6 + 4 * n + l) (j .operation-counts) (j .step-counts) ∙ sym q) (λ i b. each-byte i (omega arith))
 
-pub one-job-one-file : (l : Limits) → Sound l → (f g : List ℕ) → Bytes f → Bytes g → file-refusal l f ≡ 0 → file-refusal l g ≡ 0 → Same-job (stream-of f) (stream-of g) → f ≡ g
-one-job-one-file l sound f g h k p q j =
+pub one-job-one-file : {l : Limits} → Sound l → (f g : List ℕ) → Bytes f → Bytes g → file-refusal l f ≡ 0 → file-refusal l g ≡ 0 → Same-job (stream-of f) (stream-of g) → f ≡ g
+one-job-one-file {l} sound f g h k p q j =
     let streams : stream-of f ≡ stream-of g =
     same-stream (stream-of f) (stream-of g) (stream-bytes f h) (stream-bytes g k) j
     (stream-good f (accepted-good l f p) .size) (stream-good g (accepted-good l g q) .size)
     in
-    sym (restored-file l f p sound h) ∙ ap file-of streams ∙ restored-file l g q sound k
+    sym (restored-file sound f h p) ∙ ap file-of streams ∙ restored-file sound g k q

@@ -1,25 +1,10 @@
--- What a stream that is ready for a run has: every field is there. The field's limits are sound. Assumes nothing.
+-- What a stream that is ready for a run has: every field is there. Assumes nothing.
 use Prim.Native.Nat.{ℕ, suc, _+_, _*_, _≤_, _<_}
 use native.Mathlib.Omega.{arith}
 use mathlib.Core.List.{List}
 use lib.ListN.{length}
-use Rattle.block.specs.Block.{payload-size}
-use Rattle.job.specs.Limits.{field, most-stream, Sound}
 use Rattle.job.specs.Stream.{operations, schedule-length, record-at, stream-length}
 use Rattle.job.specs.Ready.{Ready}
-
-pub field-sound : Sound field
-unfolding most-stream payload-size
-field-sound =
-    record {
-      stream-fits = omega arith;
-      behind-fits = omega arith;
-      blocks-fit = omega arith;
-      places = omega arith;
-      rows = omega arith;
-      cells = omega arith;
-      report-fits = omega arith;
-    }
 
 module _ {s : List ℕ} (r : Ready s) where
   pub header-there : 6 ≤ length s

@@ -60,24 +60,23 @@ module _ {l : Limits} (file : List ℕ) (g : Good-file l file) where
       ∙ pieces-of file block-size 0 (block-count file)
       ∙ take-all (block-size * block-count file) file (omega (arith, g .sized .whole))
 
-module _ (l : Limits) (file : List ℕ) (accepted : file-refusal l file ≡ 0) where
+module _ {l : Limits} (sound : Sound l) (file : List ℕ) (h : Bytes file) (accepted : file-refusal l file ≡ 0) where
   -- for every accepted file, the writer takes its stream
   read-taken : (out : List ℕ) → most-file l ≤ length out → write-number l (stream-of file) out ≡ 0
   read-taken out room = good-written l (stream-of file) out room (stream-good file (accepted-good l file accepted))
 
   -- and makes that very file of it
-  pub restored-file : Sound l → Bytes file → file-of (stream-of file) ≡ file
-  restored-file = restored file (accepted-good l file accepted)
+  pub restored-file : file-of (stream-of file) ≡ file
+  restored-file = restored file (accepted-good l file accepted) sound h
 
   -- in the words of the calls
-  pub write-what-is-read : Sound l → (out : List ℕ) → Bytes file → most-file l ≤ length out → Written-back l file out
+  pub write-what-is-read : (out : List ℕ) → most-file l ≤ length out → Written-back l file out
   unfolding write-length write-out
-  write-what-is-read sound out h room =
+  write-what-is-read out room =
       let number : write-number l (stream-of file) out ≡ 0 = read-taken out room in
       let taken : same (write-number l (stream-of file) out) 0 ≡ true = equal-same number in
-      let is : file-of (stream-of file) ≡ file = restored-file sound h in
       record {
         number = number;
-        size = simp (taken, pick-true) (ap length is);
-        left = simp (taken, pick-true) (ap (λ (f : List ℕ). f ++ drop (length f) out) is);
+        size = simp (taken, pick-true) (ap length restored-file);
+        left = simp (taken, pick-true) (ap (λ (f : List ℕ). f ++ drop (length f) out) restored-file);
       }

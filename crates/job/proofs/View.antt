@@ -6,7 +6,7 @@ use native.Mathlib.Omega.{arith}
 use mathlib.Core.Bool.{not}
 use mathlib.Core.List.{List, [], _∷_, _++_}
 use borrow.Author.Tests.{not-false}
-use lib.ListN.{length, take, drop, getD, replicate, length-append, length-replicate, getD-replicate, length-drop, take-append-drop}
+use lib.ListN.{length, drop, getD, replicate, length-append, length-replicate, getD-replicate, length-drop, take-append-drop}
 use lib.Seq.{getD-take, getD-drop, ext-getD, length-take-le}
 use Rattle.basics.specs.Bytes.{Bytes}
 use Rattle.basics.specs.Choice.{same, less}

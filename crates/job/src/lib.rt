@@ -7,7 +7,7 @@ ghost use lib.ListN.{length};
 ghost use Rattle.job.specs.Limits.{field, most-file, most-stream, Sound};
 ghost use Rattle.job.specs.Kind.{kind-of};
 ghost use Rattle.job.specs.Job.{job-of, heading-of};
-ghost use Rattle.job.specs.Stream.{processes, operations, schedule-length, stream-length, record-at, action};
+ghost use Rattle.job.specs.Stream.{kind, processes, operations, schedule-length, stream-length, record-at, action};
 ghost use Rattle.job.specs.Refusals.{first-met, outside, exact-count, bad-record, bad-records, bad-schedule, bad-padding, header-conditions, list-conditions};
 
 // An operation's number; operations count from 1, and 0 is none.
@@ -114,12 +114,20 @@ fn kind_of(number: u8) -> Lookup
     }
 }
 
+// The kind of a stream, if its number is one's.
+fn its_kind(s: &[u8]) -> Lookup
+    requires { ⌜ 6 ≤ length (now s) ⌝ }
+    ensures { λ r. ⌜ r ≡ kind-of (kind (now (s .entry))) ⌝ }
+{
+    kind_of(s[0])
+}
+
 // The object. A stream of no kind is refused; here it is read as a queue's.
 pub fn object_of(s: &[u8]) -> Kind
     requires { ⌜ 6 ≤ length (now s) ⌝ }
     ensures { λ r. ⌜ r ≡ job-of (now (s .entry)) .object ⌝ }
 {
-    match kind_of(s[0]) {
+    match its_kind(s) {
         Lookup::Found(kind) => kind,
         Lookup::Missing => Kind::Queue,
     }
@@ -248,7 +256,7 @@ pub fn header(limits: Limits, s: &[u8]) -> u8
     requires { ⌜ 6 ≤ length (now s) ⌝ }
     ensures { λ r. ⌜ r ≡ first-met (header-conditions limits (now (s .entry))) ⌝ }
 {
-    let Lookup::Found(_) = kind_of(s[0]) else {
+    let Lookup::Found(_) = its_kind(s) else {
         return 5;
     };
     if outside(1, limits.processes, processes(s) as u16) {

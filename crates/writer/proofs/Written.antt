@@ -1,7 +1,7 @@
 -- What a write gives and leaves, refused and done. Assumes nothing.
 use mathlib.Core.Path.{_≡_, sym, ap, _∙_}
 use mathlib.Core.Logic.{_≢_}
-use Prim.Native.Nat.{ℕ, _*_, _≤_, _<_}
+use Prim.Native.Nat.{ℕ, _*_, _≤_}
 use native.Mathlib.Omega.{arith}
 use mathlib.Core.List.{List}
 use lib.ListN.{length}
@@ -14,7 +14,7 @@ use Rattle.job.specs.Stream.{stream-length}
 use Rattle.job.specs.Refusals.{exact-count}
 use Rattle.job.specs.File.{file-of}
 use Rattle.job.specs.Calls.{write-number, write-length, write-out}
-use Rattle.job.proofs.Accepted.{Good-stream, written-good}
+use Rattle.job.proofs.Accepted.{written-good}
 use Rattle.job.proofs.Padded.{fine-small, length-file-of}
 use Rattle.job.proofs.Tests.{header-there}
 

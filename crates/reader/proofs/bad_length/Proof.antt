@@ -1,5 +1,4 @@
 -- `reader::bad_length` meets its contract. Assumes nothing.
-use mathlib.Core.Path.{sym}
 use mathlib.Core.Bool.{or-true}
 use Rattle.basics.specs.Choice.{same}
 use Rattle.basics.proofs.Choice.{equal-same, unequal-same, lt-less, le-less}
