@@ -23,7 +23,7 @@ use Rattle.wording.specs.Report.{report}
 use Rattle.machine.specs.Explained.{Explained}
 use Rattle.theory.proofs.Theorem.{explained}
 use Rattle.text.specs.Laid.{laid}
-use Rattle.report.specs.Columns.{Reported}
+use Rattle.report.specs.Reported.{Reported}
 use Rattle.replayer.proofs.Short.{report-short}
 use Rattle.replayer.specs.Replay.{small-memory, job-in, report-of, replay-number, replay-length, replay-report, replay-work}
 

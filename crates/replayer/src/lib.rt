@@ -14,7 +14,7 @@ ghost use Rattle.job.specs.Ready.{Ready};
 ghost use Rattle.wording.specs.Report as Report;
 ghost use Rattle.machine.specs.Explained.{Explained};
 ghost use Rattle.run.specs.Promise.{Room, AllBlank};
-ghost use Rattle.report.specs.Columns.{Reported};
+ghost use Rattle.report.specs.Reported.{Reported};
 ghost use Rattle.replayer.specs.Replay.{job-in, replay-number, replay-length, replay-report, replay-work};
 
 // Runs the job of a stream in blank lent memory, and writes its report.

@@ -1,6 +1,8 @@
 -- `replayer::replay` meets its contract: by the three ways in which a replay ends. Assumes nothing.
 use mathlib.Core.Path.{refl, sym, _∙_}
 use Rattle.replayer.proofs.Replied.{small-refused, read-refused, held-ready, accepted-replied}
+use Rattle.basics.specs.Maps.{at}
+use native.Mathlib.Omega.{arith}
 use borrow.Author.Needs.{needs}
 use Rattle.replayer.proofs.replay.Statement.{statement}
 use Rattle.replayer.proofs.replay.Tie as tie
@@ -18,12 +20,13 @@ returns-2 c =
     read-refused (p .limits) (p .file .now) (p .work .now) (p .report .now) (test .if1 .left) (r .read .ensures .0) (c .if2 .taken) (r .read .ensures .1 .0) (r .read .ensures .1 .1)
 
 replay-held-requires : tie.Need-replay-held-requires
+unfolding at
 replay-held-requires c κs =
     let r = c .before .before .before .before .before .before in
     let test = r .before .before in
     let start = test .before .before .before .before .before in
     let p = start .args in
-    (start .pre, held-ready (p .limits) (p .file .now) (p .work .now) (p .report .now) (test .if1 .left) (sym (r .read .ensures .0) ∙ c .before .before .if2 .left) (r .read .last .1 .1 .0) (r .read .ensures .1 .1) (r .read .kept .1 .1 .0))
+    (start .pre, held-ready (p .limits) (p .file .now) (p .work .now) (p .report .now) (test .if1 .left) (sym (r .read .ensures .0) ∙ c .before .before .if2 .left) (start .pre) (record { byte = λ i. omega (arith, test .before .before .before .before .shared-slice-known .given i) }) (r .read .last .1 .1 .0) (r .read .ensures .1 .1) (r .read .kept .1 .1 .0))
 
 returns-3 : tie.Need-returns-3
 returns-3 c =
