@@ -1,12 +1,13 @@
 -- What the tests of the code say of the conditions of a stream. Assumes nothing.
 use mathlib.Core.Path.{_≡_, sym, ap, _∙_}
 use mathlib.Core.Logic.{_≢_}
-use Prim.Native.Nat.{ℕ, _+_, _-_, _≤_, _<_}
+use Prim.Native.Nat.{ℕ, _+_, _-_, _*_, _≤_, _<_}
 use native.Mathlib.Omega.{arith}
 use mathlib.Core.Bool.{Bool, true, false, not, or-true}
 use mathlib.Core.List.{List, [], _∷_}
-use lib.ListN.{length}
+use lib.ListN.{length, getD}
 use Rattle.basics.specs.Choice.{same, less}
+use Rattle.basics.specs.Maps.{at}
 use Rattle.basics.proofs.Choice.{lt-less, le-less, equal-same, unequal-same}
 use Rattle.job.specs.declared.Limits.{Limits}
 use Rattle.job.specs.declared.Lookup.{Lookup}
@@ -81,6 +82,11 @@ module _ (s : List ℕ) (o : ℕ) {p n : ℕ} (own : p ≡ process s o) (all : n
       pub put-value : a ≢ 2 → false ≡ bad-record s o
       unfolding bad-record
       put-value other = simp (← own, ← all, lt-less h, ← act, sym e ∙ inside, unequal-same other)
+
+-- the byte of an entry, where the code reads it
+pub entry-byte : (s : List ℕ) (k : ℕ) {place n : ℕ} → place ≡ 5 + 4 * n → n ≡ operations s → getD s (place + k) 0 ≡ scheduled s k
+unfolding scheduled at
+entry-byte s k from count = ap (λ (x : ℕ). getD s (x + k) 0) (from ∙ ap (λ (x : ℕ). 5 + 4 * x) count)
 
 -- an entry of the schedule likewise
 module _ (s : List ℕ) (k : ℕ) {p n : ℕ} (own : p ≡ scheduled s k) (all : n ≡ processes s) where

@@ -218,12 +218,20 @@ pub fn value(s: &[u8], o: Operation) -> u16
     word_at(s, place + 2)
 }
 
+// Where the schedule of so many operations stands: the entry of step k is k bytes further.
+fn schedule_at(count: u16) -> usize
+    ensures { λ r. ⌜ r ≡ 5 + 4 * count ⌝ }
+{
+    5 + 4 * (count as usize)
+}
+
 // The process that the schedule names for a step, in a stream of so many operations.
 pub fn scheduled(s: &[u8], count: u16, k: Step) -> Process
     requires { ⌜ (count ≡ operations (now s)) × (5 + 4 * count + k .0 < length (now s)) ⌝ }
     ensures { λ r. ⌜ r .0 ≡ job-of (now (s .entry)) .entry (k .0) ⌝ }
 {
-    Process(s[5 + 4 * (count as usize) + k.0 as usize])
+    let place = schedule_at(count);
+    Process(s[place + k.0 as usize])
 }
 
 // The length of the stream itself, without padding.
@@ -310,12 +318,12 @@ fn bad_schedule(s: &[u8]) -> bool
     requires { ⌜ stream-length (now s) ≤ length (now s) ⌝ }
     ensures { λ r. ⌜ r ≡ bad-schedule (now (s .entry)) ⌝ }
 {
-    let count = operations(s);
+    let place = schedule_at(operations(s));
     let end = schedule_length(s) as usize + 1;
     let processes = processes(s);
     let mut k: usize = 1;
     while k < end {
-        if scheduled(s, count, Step(k as u16)).0 >= processes {
+        if s[place + k] >= processes {
             return true;
         }
         k += 1;

@@ -4,57 +4,50 @@ use mathlib.Core.Path.{_≡_, _∙_}
 use Prim.Native.Nat.{_-_, _≤_}
 use Rattle.job.specs.Stream.{stream-length}
 use Rattle.job.specs.Refusals.{any, bad-entry, bad-schedule}
-use Rattle.job.specs.Job.{job-of}
 use Rattle.job.proofs.Conditions.{any-met, any-next, any-end}
-use Rattle.job.proofs.Tests.{header-there, any-from-one, entry-met, entry-passed}
+use Rattle.job.proofs.Tests.{header-there, any-from-one, entry-byte, entry-met, entry-passed}
 use native.Mathlib.Omega.{arith}
 use Rattle.job.proofs.bad_schedule.Statement.{statement}
 use Rattle.job.proofs.bad_schedule.Tie as tie
 
 abbrev Inv-loop : tie.InvT-loop
-Inv-loop s count end processes k₀ k = (1 ≤ k) × (k ≤ end) × (any (bad-entry s) k (end - k) ≡ bad-schedule s)
+Inv-loop s place end processes k₀ k = (1 ≤ k) × (k ≤ end) × (any (bad-entry s) k (end - k) ≡ bad-schedule s)
 
 abbrev μ-loop : tie.MeasureT-loop
-μ-loop s count end processes k₀ k = end - k
+μ-loop s place end processes k₀ k = end - k
 
 loop-holds : tie.Need-loop-holds Inv-loop μ-loop
 unfolding bad-schedule
 loop-holds c = (omega arith, omega arith, any-from-one (bad-entry _) (c .before .schedule-length .ensures))
 
-scheduled-requires : tie.Need-scheduled-requires Inv-loop μ-loop
+add-if1 : tie.Need-add-if1 Inv-loop μ-loop
 unfolding stream-length
-scheduled-requires c κs =
+add-if1 c =
     let steps = c .before .before .before in
-    (steps .before .operations .ensures, omega (arith, steps .schedule-length .ensures, steps .before .operations .ensures))
+    omega (arith, steps .schedule-length .ensures, steps .before .schedule-at .ensures, steps .before .before .operations .ensures)
+
+shared-slice-read-if1 : tie.Need-shared-slice-read-if1 Inv-loop μ-loop
+unfolding stream-length
+shared-slice-read-if1 c =
+    let steps = c .before .before .before .before in
+    omega (arith, steps .schedule-length .ensures, steps .before .schedule-at .ensures, steps .before .before .operations .ensures)
 
 returns : tie.Need-returns Inv-loop μ-loop
-unfolding job-of
 returns c =
-    let turn = c .before .before .before in
-    any-met (bad-entry _) (turn .loop-test .taken) (entry-met _ _ (c .before .before .scheduled .ensures) (turn .before .before .processes .ensures) (c .if1 .taken)) ∙ turn .before .loop .inv .2
+    let turn = c .before .before in
+    let read = turn .before .before in
+    any-met (bad-entry _) (turn .loop-test .taken) (entry-met _ _ (entry-byte _ _ (read .before .before .schedule-at .ensures) (read .before .before .before .operations .ensures)) (read .processes .ensures) (c .if1 .taken)) ∙ turn .before .loop .inv .2
 
 loop-again : tie.Need-loop-again Inv-loop μ-loop
-unfolding job-of
 loop-again c =
-    let turn = c .before .before .before in
-    (omega arith, omega arith, any-next (bad-entry _) (turn .loop-test .taken) (entry-passed _ _ (c .before .before .scheduled .ensures) (turn .before .before .processes .ensures) (c .if1 .left)) ∙ turn .before .loop .inv .2)
+    let turn = c .before .before in
+    let read = turn .before .before in
+    (omega arith, omega arith, any-next (bad-entry _) (turn .loop-test .taken) (entry-passed _ _ (entry-byte _ _ (read .before .before .schedule-at .ensures) (read .before .before .before .operations .ensures)) (read .processes .ensures) (c .if1 .left)) ∙ turn .before .loop .inv .2)
 
 pub bad-schedule-spec : {M : Type 1} → statement M
 bad-schedule-spec =
     tie.close
     (tie.spec
-    Inv-loop
-    μ-loop
-    (λ c κs. header-there _ (c .before .pre))
-    (λ c κs. header-there _ (c .before .before .pre))
-    (λ c. omega arith)
-    (λ c. omega arith)
-    (λ c κs. header-there _ (c .before .before .before .pre))
-    loop-holds
-    (λ c. omega (arith, c .before .before .before .schedule-length .ensures))
-    scheduled-requires
-    returns
-    (λ c. omega arith)
-    (λ c. omega arith)
-    loop-again
-    (λ c. any-end (bad-entry _) (c .loop-test .left) ∙ c .before .loop .inv .2))
+    Inv-loop μ-loop (λ c κs. header-there _ (c .before .pre)) (λ c κs. tt) (λ c κs. header-there _ (c .before .before .before .pre)) (λ c. omega arith)
+    (λ c. omega arith) (λ c κs. header-there _ (c .before .before .before .before .pre)) loop-holds add-if1 shared-slice-read-if1 returns (λ c. omega arith) (λ c. omega arith)
+    loop-again (λ c. any-end (bad-entry _) (c .loop-test .left) ∙ c .before .loop .inv .2))
