@@ -2,7 +2,7 @@
 use mathlib.Core.Path.{_≡_, refl, sym, ap, _∙_}
 use mathlib.Core.Logic.{_≢_}
 use Prim.Native.Nat.{ℕ}
-use mathlib.Core.Bool.{true, false}
+use mathlib.Core.Bool.{Bool, true, false}
 use mathlib.Core.List.{List, [], _++_, append-assoc, append-nil}
 use Rattle.basics.specs.Choice.{pick, same}
 use Rattle.basics.specs.Text.{text, decimal}
@@ -20,14 +20,14 @@ use Rattle.lines.specs.Members.{takers-of}
 use Rattle.lines.specs.Lines.{at-text, take-text, found-line}
 use Rattle.lines.specs.Told.{said, front-text, answer-told, end-told, progress-told}
 
-module _ (j : Job) (o : ℕ) where
-  pub action-of-put : {field : ℕ} → j .is-put o ≡ true → field ≡ j .field o → text " put " ++ stage-text field ≡ action-text j o
+module _ (j : Job) (o : ℕ) {put : Bool} (e : put ≡ j .is-put o) where
+  pub action-of-put : {field : ℕ} → put ≡ true → field ≡ j .field o → text " put " ++ stage-text field ≡ action-text j o
   unfolding action-text
-  action-of-put p f = ap (λ (n : ℕ). text " put " ++ stage-text n) f ∙ sym (pick-then _ (text " take") p)
+  action-of-put p f = ap (λ (n : ℕ). text " put " ++ stage-text n) f ∙ sym (pick-then _ (text " take") (sym e ∙ p))
 
-  pub action-of-take : j .is-put o ≡ false → text " take" ≡ action-text j o
+  pub action-of-take : put ≡ false → text " take" ≡ action-text j o
   unfolding action-text
-  action-of-take p = sym (pick-else _ (text " take") p)
+  action-of-take p = sym (pick-else _ (text " take") (sym e ∙ p))
 
 pub item-and-value : (j : Job) (n : ℕ) {field : ℕ} → field ≡ j .field n → text " item " ++ decimal n ++ (text " value " ++ stage-text field) ≡ answer-text j (Answer.item n)
 unfolding answer-text

@@ -14,7 +14,7 @@ use Rattle.lines.proofs.put_answer.Tie as tie
 put-item-requires : tie.Need-put-item-requires
 put-item-requires c κs =
     let item = c .before .before .cell2 .ensures in
-    (omega (arith, ap record-at item), omega (arith, ap length (answer-of-item (job-of (c .before .before .before .before .before .before .before .before .args .stream .now)) _ _ (cc) item (search needs))))
+    (omega (arith, ap record-at item), omega (arith, ap length (answer-of-item (job-of (c .before .before .before .before .before .before .before .before .args .stream .now)) _ _ (omega arith) item (search needs))))
 
 pub put-answer-spec : {M : Type 1} → statement M
 unfolding text
@@ -28,9 +28,9 @@ put-answer-spec =
     (λ c. wrote-as (answer-of-link _ _ _ (c .before .before .before .before .before .before .cell .ensures) (search needs)) (search needs))
     (λ c κs. search needs)
     (λ c. search needs)
-    (λ c κs. let start = c .before .before .before .before .before .before .before .before .before .args in omega (arith, ap length (answer-of-empty (job-of (start .stream .now)) (start .ops .now) (start .o .0) (cc) (cc))))
+    (λ c κs. let start = c .before .before .before .before .before .before .before .before .before .args in omega (arith, ap length (answer-of-empty (job-of (start .stream .now)) (start .ops .now) (start .o .0) (omega arith) (omega arith))))
     (λ c. search needs)
-    (λ c. wrote-as (answer-of-empty _ _ _ (cc) (cc)) (search needs))
+    (λ c. wrote-as (answer-of-empty _ _ _ (omega arith) (omega arith)) (search needs))
     put-item-requires
     (λ c. search needs)
-    (λ c. wrote-as (answer-of-item _ _ _ (cc) (c .before .before .before .before .before .cell2 .ensures) (search needs)) (search needs)))
+    (λ c. wrote-as (answer-of-item _ _ _ (omega arith) (c .before .before .before .before .before .cell2 .ensures) (search needs)) (search needs)))

@@ -17,9 +17,9 @@ put-end-spec =
     (tie.spec
     (λ c κs. search needs)
     (λ c. search needs)
-    (λ c κs. let start = c .before .before .before .before .before .before .before .args in omega (arith, ap length (end-of-open (job-of (start .stream .now)) (start .ops .now) (start .o .0) (cc))))
+    (λ c κs. let start = c .before .before .before .before .before .before .before .args in omega (arith, ap length (end-of-open (job-of (start .stream .now)) (start .ops .now) (start .o .0) (omega arith))))
     (λ c. search needs)
-    (λ c. wrote-as (end-of-open _ _ _ (cc)) (search needs))
+    (λ c. wrote-as (end-of-open _ _ _ (omega arith)) (search needs))
     (λ c. search needs)
     (λ c κs. omega (arith, simp length-append at (ap length (end-of-ended (job-of (c .before .before .before .before .before .before .before .args .stream .now)) _ _ (c .before .before .before .cell .ensures) (search needs)))))
     (λ c κs. (search needs, omega (arith, simp length-append at (ap length (end-of-ended (job-of (c .before .before .before .before .before .before .before .before .before .before .before .args .stream .now)) _ _ (c .before .before .before .before .before .before .before .cell .ensures) (search needs))))))
