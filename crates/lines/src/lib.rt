@@ -19,7 +19,7 @@ ghost use Rattle.text.specs.Laid.{Wrote};
 ghost use Rattle.rows.specs.Rows.{HasRows};
 ghost use Rattle.rows.specs.Operations.{cells};
 ghost use Rattle.rows.specs.Operations.Column.{Taken};
-ghost use Rattle.rows.specs.Nodes.{nexts, marks};
+ghost use Rattle.rows.specs.Nodes.{marks};
 ghost use Rattle.job.specs.Stream.{record-at};
 ghost use Rattle.job.specs.Job.{job-of};
 ghost use Rattle.machine.specs.Notes.{Answer};

@@ -3,7 +3,7 @@
 use Prim.Native.Nat.{_-_}
 use native.Mathlib.Omega.{arith}
 use borrow.Author.Needs.{needs}
-use Rattle.lines.proofs.Left.{Turn, Counting, counting-none, counted, counted-all, counting-more, counting-past}
+use Rattle.lines.proofs.Left.{Counting, counting-none, counted, counted-all, counting-more, counting-past}
 use Rattle.lines.proofs.left_count.Statement.{statement}
 use Rattle.lines.proofs.left_count.Tie as tie
 

@@ -3,7 +3,7 @@
 use Prim.Native.Nat.{_-_}
 use native.Mathlib.Omega.{arith}
 use borrow.Author.Needs.{needs}
-use Rattle.lines.proofs.Left.{Turn, Leaving, leaving-none, left-written, left-written-all, leaving-room, leaving-more, leaving-past}
+use Rattle.lines.proofs.Left.{Leaving, leaving-none, left-written, left-written-all, leaving-room, leaving-more, leaving-past}
 use Rattle.lines.proofs.put_left.Statement.{statement}
 use Rattle.lines.proofs.put_left.Tie as tie
 
