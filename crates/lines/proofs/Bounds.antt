@@ -8,7 +8,7 @@ use lib.ListN.{length, replicate}
 use Rattle.basics.specs.Maps.{at, upd}
 use Rattle.basics.proofs.Choice.{unequal-same}
 use Rattle.basics.proofs.Maps.{upd-elim}
-use Rattle.rows.specs.Rows.{place, column, HasRows}
+use Rattle.rows.specs.Rows.{place, column}
 use Rattle.rows.specs.Operations.{cells}
 use Rattle.rows.specs.Operations.Column.{Taken}
 use Rattle.rows.proofs.Rows.{own-column, other-column}

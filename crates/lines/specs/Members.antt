@@ -1,5 +1,4 @@
 -- The takers of an item and the items that are left, as the rows that hold a run's outcome say them.
-use mathlib.Core.Path.{_≡_}
 use Prim.Native.Nat.{ℕ, _+_, _≤_, _<_}
 use mathlib.Core.Bool.{Bool, true}
 use mathlib.Core.List.{List}

@@ -27,11 +27,15 @@ pub record InStream (stream ops : List ℕ) (o : ℕ) : Type 0 where
 unfoldable pub front-text : Job → ℕ → List ℕ
 front-text j o = text "op " ++ decimal o ++ text " process " ++ decimal (j .owner o) ++ action-text j o
 
+-- the answer of an ended operation: ` done`, ` item 1 value 50`, ` empty`
+abbrev pub answer-told : Job → Cells → ℕ → List ℕ
+answer-told j c o = answer-text j (said (c Link o) (c Taken o))
+
 -- how an operation that has begun ended, if it did: ` last 4 done`, ` last - open`
 unfoldable pub end-told : Job → Cells → ℕ → List ℕ
 end-told j c o =
     pick (same (c Last o) 0) (text " last - open")
-    (text " last " ++ decimal (c Last o) ++ answer-text j (said (c Link o) (c Taken o)))
+    (text " last " ++ decimal (c Last o) ++ answer-told j c o)
 
 -- how far it has come: ` first 1` and what follows, or ` first - last - waiting`
 unfoldable pub progress-told : Job → Cells → ℕ → List ℕ

@@ -19,15 +19,14 @@ ghost use Rattle.text.specs.Laid.{Wrote};
 ghost use Rattle.rows.specs.Rows.{HasRows};
 ghost use Rattle.rows.specs.Operations.{cells};
 ghost use Rattle.rows.specs.Operations.Column.{Taken};
-ghost use Rattle.rows.specs.Nodes.{nexts, marks};
+ghost use Rattle.rows.specs.Nodes.{marks};
 ghost use Rattle.job.specs.Stream.{record-at};
 ghost use Rattle.job.specs.Job.{job-of};
-ghost use Rattle.machine.specs.Multiplicity.{Line};
 ghost use Rattle.machine.specs.Notes.{Answer};
-ghost use Rattle.wording.specs.Report.{object-line, action-text, answer-text, spaced, record-line, record-lines, left-line};
-ghost use Rattle.lines.specs.Told.{said, InStream, front-text, end-told, progress-told, line-told};
+ghost use Rattle.wording.specs.Report.{object-line, action-text, answer-text, spaced, record-lines, left-line};
+ghost use Rattle.lines.specs.Told.{InStream, front-text, answer-told, end-told, progress-told, line-told};
 ghost use Rattle.lines.specs.Members.{takers-of, Unbounded, Bounds, stays, left-from, NodesThere};
-ghost use Rattle.lines.specs.Lines.{member, found-line};
+ghost use Rattle.lines.specs.Lines.{member, at-text, take-text, found-line};
 
 // What is found to stand at a step: no line, the line of a put, that of an item's takers, or that of a take that answered empty.
 pub enum Found {
@@ -73,18 +72,19 @@ fn put_item(out: &mut [u8], at: usize, stream: &[u8], item: Operation) -> usize
     put_stage(out, next, b" value ", value(stream, item))
 }
 
-// The answer of an ended operation, by the step at which it linked and the item that it took.
-fn put_answer(out: &mut [u8], at: usize, stream: &[u8], link: Step, item: Operation) -> usize
-    requires { ⌜ (record-at (item .0) + 3 < length (now stream)) × (at + length (answer-text (job-of (now stream)) (said (link .0) (item .0))) ≤ length (now out)) ⌝ }
-    ensures { λ r. ⌜ Wrote (now (out .entry)) (now (out .exit)) at r (answer-text (job-of (now (stream .entry))) (said (link .0) (item .0))) ⌝ }
+// The answer of an ended operation.
+fn put_answer(out: &mut [u8], at: usize, stream: &[u8], ops: &[u16], o: Operation) -> usize
+    requires { ⌜ InStream (now stream) (now ops) (o .0) × (at + length (answer-told (job-of (now stream)) (cells (now ops)) (o .0)) ≤ length (now out)) ⌝ }
+    ensures { λ r. ⌜ Wrote (now (out .entry)) (now (out .exit)) at r (answer-told (job-of (now (stream .entry))) (cells (now (ops .entry))) (o .0)) ⌝ }
 {
-    if link.0 != 0 {
+    if cell(ops, o.0, rows::LINK) != 0 {
         return put_bytes(out, at, b" done");
     }
-    if item.0 == 0 {
+    let item = cell(ops, o.0, rows::TAKEN);
+    if item == 0 {
         return put_bytes(out, at, b" empty");
     }
-    put_item(out, at, stream, item)
+    put_item(out, at, stream, Operation(item))
 }
 
 // How an operation that has begun ended, if it did.
@@ -97,9 +97,7 @@ fn put_end(out: &mut [u8], at: usize, stream: &[u8], ops: &[u16], o: Operation) 
         return put_bytes(out, at, b" last - open");
     }
     let next = put_labelled(out, at, b" last ", last);
-    let link = cell(ops, o.0, rows::LINK);
-    let item = cell(ops, o.0, rows::TAKEN);
-    put_answer(out, next, stream, Step(link), Operation(item))
+    put_answer(out, next, stream, ops, o)
 }
 
 // How far an operation has come.
@@ -185,8 +183,8 @@ fn put_takers(
 
 // A step, and an operation or an item behind a label.
 fn put_at(out: &mut [u8], at: usize, s: Step, label: &[u8], o: Operation) -> usize
-    requires { ⌜ at + length (text "at " ++ decimal (s .0) ++ (now label ++ decimal (o .0))) ≤ length (now out) ⌝ }
-    ensures { λ r. ⌜ Wrote (now (out .entry)) (now (out .exit)) at r (text "at " ++ decimal (s .0) ++ (now (label .entry) ++ decimal (o .0))) ⌝ }
+    requires { ⌜ at + length (at-text (s .0) (now label) (o .0)) ≤ length (now out) ⌝ }
+    ensures { λ r. ⌜ Wrote (now (out .entry)) (now (out .exit)) at r (at-text (s .0) (now (label .entry)) (o .0)) ⌝ }
 {
     let next = put_labelled(out, at, b"at ", s.0);
     put_labelled(out, next, label, o.0)
@@ -194,8 +192,8 @@ fn put_at(out: &mut [u8], at: usize, s: Step, label: &[u8], o: Operation) -> usi
 
 // The line of a step that has one member: a put, or a take that found nothing.
 fn single_line(out: &mut [u8], at: usize, s: Step, label: &[u8], o: Operation) -> usize
-    requires { ⌜ at + length (text "at " ++ decimal (s .0) ++ (now label ++ decimal (o .0)) ++ text "\n") ≤ length (now out) ⌝ }
-    ensures { λ r. ⌜ Wrote (now (out .entry)) (now (out .exit)) at r (text "at " ++ decimal (s .0) ++ (now (label .entry) ++ decimal (o .0)) ++ text "\n") ⌝ }
+    requires { ⌜ at + length (at-text (s .0) (now label) (o .0) ++ text "\n") ≤ length (now out) ⌝ }
+    ensures { λ r. ⌜ Wrote (now (out .entry)) (now (out .exit)) at r (at-text (s .0) (now (label .entry)) (o .0) ++ text "\n") ⌝ }
 {
     let next = put_at(out, at, s, label, o);
     put_bytes(out, next, b"\n")
@@ -211,8 +209,8 @@ fn take_line(
     s: Step,
     item: Operation,
 ) -> usize
-    requires { ⌜ Bounds (now ops) (now bounds) count × (item .0 ≤ count) × (at + length (record-line (record { step = s .0; line = Line.takes (item .0) (takers-of (cells (now ops) Taken) count (item .0)) })) ≤ length (now out)) ⌝ }
-    ensures { λ r. ⌜ Wrote (now (out .entry)) (now (out .exit)) at r (record-line (record { step = s .0; line = Line.takes (item .0) (takers-of (cells (now (ops .entry)) Taken) count (item .0)) })) ⌝ }
+    requires { ⌜ Bounds (now ops) (now bounds) count × (item .0 ≤ count) × (at + length (take-text (s .0) (item .0) (takers-of (cells (now ops) Taken) count (item .0))) ≤ length (now out)) ⌝ }
+    ensures { λ r. ⌜ Wrote (now (out .entry)) (now (out .exit)) at r (take-text (s .0) (item .0) (takers-of (cells (now (ops .entry)) Taken) count (item .0))) ⌝ }
 {
     let next = put_at(out, at, s, b" take ", item);
     let next = put_bytes(out, next, b" by");

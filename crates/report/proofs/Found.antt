@@ -18,7 +18,7 @@ use Rattle.machine.specs.Multiplicity.Line.{put, takes, empty}
 use Rattle.machine.specs.Notes.{note}
 use Rattle.machine.specs.Journal
 use Rattle.machine.specs.Effects.{Effect, effect, takes-at, takers, numbers}
-use Rattle.machine.specs.Effects.Effect.{none, stands}
+use Rattle.machine.specs.Effects.Effect.{stands}
 use Rattle.machine.specs.Record as Record
 use Rattle.machine.specs.Record.{Recorded, if-at, run-line, lines-to, run-lines}
 use Rattle.machine.specs.Explained.{IsOperation}

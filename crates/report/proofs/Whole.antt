@@ -1,6 +1,6 @@
 -- What a run leaves gives each part of its report, and the parts are the whole. Assumes nothing.
 use mathlib.Core.Path.{_≡_, refl, sym, ap, ap₂, subst, _∙_}
-use Prim.Native.Nat.{ℕ, _≤_, _<_}
+use Prim.Native.Nat.{ℕ}
 use native.Mathlib.Nat.{zero-add}
 use native.Mathlib.Omega.{arith}
 use mathlib.Core.List.{List, _++_}
@@ -13,7 +13,6 @@ use Rattle.job.specs.declared.Heading.{Heading}
 use Rattle.job.specs.Job.{Job, heading-of}
 use Rattle.machine.specs.declared.Finish.{Finish}
 use Rattle.machine.specs.Record.{Recorded, the-record}
-use Rattle.machine.specs.Left.{left}
 use Rattle.wording.specs.Report.{object-line, operation-lines, record-lines, left-line, report}
 use Rattle.journal.specs.Journal.{Agrees}
 use Rattle.lines.specs.Members.{first-node, left-from, NodesThere}

@@ -1,6 +1,6 @@
 -- `lines::bound_takers` meets its contract. The loop's invariant: the bounds by `o` operations from either end. The measure is how many
 -- operations are left. Assumes nothing.
-use mathlib.Core.Path.{_≡_, refl, _∙_}
+use mathlib.Core.Path.{_≡_, refl}
 use Prim.Native.Nat.{_-_}
 use native.Mathlib.Omega.{arith}
 use borrow.Author.Needs.{needs}
@@ -25,9 +25,7 @@ store-requires-2 c κs =
 
 loop-again : tie.Need-loop-again Inv-loop μ-loop
 loop-again c =
-    let inv = c .before .before .before .before .before .before .before .before .before .before .before .loop .inv in
-    let kept = c .before .before .store2 .kept .0 ∙ c .before .before .before .before .before .before .before .store .kept .0 in
-    (bounded-more _ _ _ _ (inv .0) (search needs) (c .before .before .before .before .before .before .before .before .cell .ensures) (c .before .before .before .before .before .before .before .store .ensures) (c .before .before .before .cell2 .ensures) (c .before .before .store2 .ensures) kept, kept ∙ inv .1)
+    (bounded-more _ _ _ _ (c .before .before .before .before .before .before .before .before .before .before .before .loop .inv .0) (search needs) (search needs) (c .before .before .before .before .before .before .before .store .ensures) (search needs) (c .before .before .store2 .ensures) (omega arith), omega arith)
 
 pub bound-takers-spec : {M : Type 1} → statement M
 bound-takers-spec =

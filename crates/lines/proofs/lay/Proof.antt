@@ -1,5 +1,5 @@
 -- `lines::lay` meets its contract. Assumes nothing.
-use mathlib.Core.Path.{sym, ap}
+use mathlib.Core.Path.{ap}
 use native.Mathlib.Omega.{arith}
 use borrow.Author.Needs.{needs}
 use lib.ListN.{length}
@@ -45,7 +45,7 @@ lay-spec =
     (λ c. search needs)
     (λ c. search needs)
     single-line-requires-2
-    (λ c. wrote-as (sym (found-nothing _ _ _ (c .enum-told .given .1))) (wrote-nothing _ _))
+    (λ c. wrote-as (found-nothing _ _ _ (c .enum-told .given .1)) (wrote-nothing _ _))
     (λ c. search needs)
     (λ c. wrote-as (found-put _ _ _ _ (c .before .before .before .before .before .before .found .given .1)) (search needs))
     (λ c. search needs)

@@ -3,7 +3,7 @@
 use Prim.Native.Nat.{_-_}
 use native.Mathlib.Omega.{arith}
 use borrow.Author.Needs.{needs}
-use Rattle.lines.proofs.Left.{Turn, Counting, counting-none, counted, counted-all, counting-more, counting-past}
+use Rattle.lines.proofs.Left.{Counting, counting-none, counted, counted-all, counting-more, counting-past}
 use Rattle.lines.proofs.left_count.Statement.{statement}
 use Rattle.lines.proofs.left_count.Tie as tie
 
@@ -15,11 +15,11 @@ abbrev μ-loop : tie.MeasureT-loop
 
 loop-again : tie.Need-loop-again Inv-loop μ-loop
 loop-again c =
-    counting-more (c .before .before .before .before .before .loop .inv) (record { asked = search needs; some = search needs; goes = search needs; told = c .before .stays .ensures }) (c .if2 .taken)
+    counting-more (c .before .before .before .before .before .loop .inv) (record { asked = search needs; some = search needs; goes = search needs; told = search needs }) (c .if2 .taken)
 
 loop-again-2 : tie.Need-loop-again-2 Inv-loop μ-loop
 loop-again-2 c =
-    counting-past (c .before .before .before .before .before .loop .inv) (record { asked = search needs; some = search needs; goes = search needs; told = c .before .stays .ensures }) (c .if2 .left)
+    counting-past (c .before .before .before .before .before .loop .inv) (record { asked = search needs; some = search needs; goes = search needs; told = search needs }) (c .if2 .left)
 
 pub left-count-spec : {M : Type 1} → statement M
 left-count-spec =

@@ -1,5 +1,4 @@
 -- `lines::operation_line` meets its contract. Assumes nothing.
-use mathlib.Core.Path.{refl}
 use native.Mathlib.Omega.{arith}
 use borrow.Author.Needs.{needs}
 use lib.ListN.{length-append}
@@ -19,4 +18,4 @@ operation-line-spec =
     (λ c. search needs)
     (λ c κs. omega (arith, simp length-append at (c .before .before .before .before .before .before .before .before .before .before .before .before .before .pre .1)))
     (λ c. search needs)
-    (λ c. wrote-three refl (search needs) (c .before .before .before .before .before .before .before .before .before .before .before .put-front .ensures) (c .before .before .before .before .before .before .before .put-progress .ensures) (search needs)))
+    (λ c. search (wrote-three, needs)))

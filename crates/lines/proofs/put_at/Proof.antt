@@ -4,11 +4,12 @@ use borrow.Author.Needs.{needs}
 use lib.ListN.{length-append}
 use Rattle.basics.specs.Text.{text}
 use Rattle.text.proofs.Laid.{wrote-then}
+use Rattle.lines.specs.Lines.{at-text}
 use Rattle.lines.proofs.put_at.Statement.{statement}
 use Rattle.lines.proofs.put_at.Tie as tie
 
 pub put-at-spec : {M : Type 1} → statement M
-unfolding text
+unfolding text at-text
 put-at-spec =
     tie.close
     (tie.spec

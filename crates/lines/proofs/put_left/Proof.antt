@@ -3,7 +3,7 @@
 use Prim.Native.Nat.{_-_}
 use native.Mathlib.Omega.{arith}
 use borrow.Author.Needs.{needs}
-use Rattle.lines.proofs.Left.{Turn, Leaving, leaving-none, left-written, left-written-all, leaving-room, leaving-more, leaving-past}
+use Rattle.lines.proofs.Left.{Leaving, leaving-none, left-written, left-written-all, leaving-room, leaving-more, leaving-past}
 use Rattle.lines.proofs.put_left.Statement.{statement}
 use Rattle.lines.proofs.put_left.Tie as tie
 
@@ -15,15 +15,15 @@ abbrev μ-loop : tie.MeasureT-loop
 
 put-spaced-requires : tie.Need-put-spaced-requires Inv-loop μ-loop
 put-spaced-requires c κs =
-    leaving-room (c .before .before .before .before .before .before .loop .inv) (record { asked = search needs; some = search needs; goes = c .before .before .before .cell .ensures; told = c .before .before .stays .ensures }) (search needs)
+    leaving-room (c .before .before .before .before .before .before .loop .inv) (record { asked = search needs; some = search needs; goes = c .before .before .before .cell .ensures; told = search needs }) (c .before .if2 .taken)
 
 loop-again : tie.Need-loop-again Inv-loop μ-loop
 loop-again c =
-    leaving-more (c .before .before .before .before .before .before .before .before .before .loop .inv) (record { asked = search needs; some = search needs; goes = search needs; told = c .before .before .before .before .before .stays .ensures }) (c .before .before .before .before .if2 .taken) (search needs)
+    leaving-more (c .before .before .before .before .before .before .before .before .before .loop .inv) (record { asked = search needs; some = search needs; goes = search needs; told = search needs }) (c .before .before .before .before .if2 .taken) (search needs)
 
 loop-again-2 : tie.Need-loop-again-2 Inv-loop μ-loop
 loop-again-2 c =
-    leaving-past (c .before .before .before .before .before .loop .inv) (record { asked = search needs; some = search needs; goes = search needs; told = c .before .stays .ensures }) (c .if2 .left)
+    leaving-past (c .before .before .before .before .before .loop .inv) (record { asked = search needs; some = search needs; goes = search needs; told = search needs }) (c .if2 .left)
 
 pub put-left-spec : {M : Type 1} → statement M
 put-left-spec =

@@ -17,9 +17,9 @@ put-progress-spec =
     (tie.spec
     (λ c κs. search needs)
     (λ c. search needs)
-    (λ c κs. omega (arith, ap length (not-begun (job-of (c .before .before .before .before .before .before .before .args .stream .now)) _ _ (c .before .before .before .cell .ensures) (search needs))))
+    (λ c κs. let start = c .before .before .before .before .before .before .before .args in omega (arith, ap length (not-begun (job-of (start .stream .now)) (start .ops .now) (start .o .0) (omega arith))))
     (λ c. search needs)
-    (λ c. wrote-as (not-begun _ _ _ (c .before .before .before .before .before .before .cell .ensures) (search needs)) (search needs))
+    (λ c. wrote-as (not-begun _ _ _ (omega arith)) (search needs))
     (λ c. search needs)
     (λ c κs. omega (arith, simp length-append at (ap length (begun (job-of (c .before .before .before .before .before .before .before .args .stream .now)) _ _ (c .before .before .before .cell .ensures) (search needs)))))
     (λ c κs. (search needs, omega (arith, simp length-append at (ap length (begun (job-of (c .before .before .before .before .before .before .before .before .before .before .before .args .stream .now)) _ _ (c .before .before .before .before .before .before .before .cell .ensures) (search needs))))))

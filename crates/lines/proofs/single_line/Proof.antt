@@ -12,8 +12,8 @@ unfolding text
 single-line-spec =
     tie.close
     (tie.spec
-    (λ c κs. simp length-append (omega (arith, simp length-append at (c .before .before .before .pre))))
+    (λ c κs. omega (arith, simp length-append at (c .before .before .before .pre)))
     (λ c. search needs)
-    (λ c κs. omega (arith, simp length-append at (c .before .before .before .before .before .before .before .before .pre), simp length-append at (c .before .before .before .before .put-at .ensures .behind)))
+    (λ c κs. omega (arith, simp length-append at (c .before .before .before .before .before .before .before .before .pre)))
     (λ c. search needs)
     (λ c. search (wrote-then, needs)))

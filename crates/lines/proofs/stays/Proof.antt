@@ -12,4 +12,4 @@ unfolding Members.stays same
 stays-spec =
     tie.close
     (tie.spec (λ c. search needs) (λ c. search needs) (λ c κs. search needs) (λ c. search needs)
-    (λ c. ap (λ n. same n 0) (c .cell .ensures) ∙ sym (ap (λ object. Members.stays object (marks (c .before .before .before .before .args .nodes .now) (c .before .before .before .before .args .node))) (c .before .enum-told2 .given .1))))
+    (λ c. let start = c .before .before .before .before .args in ap (λ n. same n 0) (c .cell .ensures) ∙ sym (ap (λ object. Members.stays object (marks (start .nodes .now) (start .node))) (c .before .enum-told2 .given .1))))

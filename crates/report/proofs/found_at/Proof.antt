@@ -1,5 +1,5 @@
 -- `report::found_at` meets its contract: what each row cell says decides as the definition does. Assumes nothing.
-use mathlib.Core.Path.{ap, _∙_}
+use mathlib.Core.Path.{_∙_}
 use native.Mathlib.Omega.{arith}
 use borrow.Author.Needs.{needs}
 use Rattle.report.proofs.Found.{found-idle, found-put, found-takers, found-open, found-empty}

@@ -1,7 +1,7 @@
 -- `report::step_lines` meets its contract. The loop's invariant: the lines of the steps up to `s` are written. The measure is how many
 -- steps are left. Assumes nothing.
-use mathlib.Core.Path.{ap, sym}
-use Prim.Native.Nat.{ℕ, _+_, _-_}
+use mathlib.Core.Path.{ap}
+use Prim.Native.Nat.{_+_, _-_}
 use native.Mathlib.Omega.{arith}
 use borrow.Author.Needs.{needs}
 use lib.ListN.{length}
