@@ -17,7 +17,8 @@ use Rattle.job.specs.Calls.{small-work, read-number, read-length, write-number,
 use Rattle.job.proofs.Accepted.{Good-stream, accepted-good, written-good}
 use Rattle.job.proofs.Padded.{fine-small, length-file-of}
 use Rattle.job.proofs.View.{stream-fits}
-use Rattle.replayer.specs.Replay.{small-memory, report-of, replay-number, replay-length}
+use Rattle.wording.specs.Report.{report}
+use Rattle.replayer.specs.Replay.{small-memory, job-in, report-of, replay-number, replay-length}
 use Rattle.replayer.proofs.Short.{report-short}
 
 -- a number that is 1 under a test is 0 only where the test fails
@@ -49,8 +50,8 @@ module _ {l : Limits} (sound : Sound l) where
       (λ e. omega arith)
 
   pub replay-small : (file work out : List ℕ) → l .report < 2 ^ 32 → Bytes file → replay-length l file work out < 2 ^ 32
-  unfolding replay-length replay-number
+  unfolding replay-length replay-number report-of
   replay-small file work out few b =
-      pick-elim (λ x. x < 2 ^ 32) (same (replay-number l file work out) 0) (length (report-of file)) 0
+      pick-elim (λ x. x < 2 ^ 32) (same (replay-number l file work out) 0) (length (report (job-in file))) 0
       (λ e. omega (arith, report-short sound file (unless-one (small-memory l work out) (file-refusal l file) (same-equal e)) b))
       (λ e. omega arith)

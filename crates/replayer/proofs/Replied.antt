@@ -118,7 +118,7 @@ module _ (l : Limits) (file work out : List ℕ) where
 
       -- the work memory after the read, and the report memory, are what the job needs
       pub held-ready : Sound l → Bytes file → (work₁ : List ℕ) → work₁ ≡ read-work l file work → length work₁ ≡ length work → (most-stream l ≤ length work₁) × Ready (take (most-stream l) work₁) × (length (report (job-of (take (most-stream l) work₁))) ≤ length out)
-      unfolding small-work report-of
+      unfolding small-work
       held-ready sound b work₁ e size =
           let h : most-stream l ≤ length work = less-le not-small in
           let same-job : job-of (take (most-stream l) work₁) ≡ job-in file = ap (λ (w : List ℕ). job-of (take (most-stream l) w)) e ∙ read-job in (

@@ -17,7 +17,7 @@ use Rattle.job.proofs.Padded.{fine-counts}
 use Rattle.job.proofs.View.{stream-good, stream-bytes}
 use Rattle.wording.specs.Report.{report}
 use Rattle.wording.proofs.Sizes.{Fits, report-bounded}
-use Rattle.replayer.specs.Replay.{job-in, report-of}
+use Rattle.replayer.specs.Replay.{job-in}
 
 -- bytes make numbers of their size
 fits : (s : List ℕ) → Bytes s → operations s ≤ field .operations → schedule-length s ≤ field .steps → Fits (job-of s)
@@ -30,8 +30,8 @@ fits s b few short =
       values = λ o op. omega (arith, b .byte (2 + 4 * o + 2), b .byte (suc (2 + 4 * o + 2)));
     }
 
-pub report-short : {l : Limits} → Sound l → (file : List ℕ) → file-refusal l file ≡ 0 → Bytes file → length (report-of file) ≤ l .report
-unfolding report-of job-in job-of
+pub report-short : {l : Limits} → Sound l → (file : List ℕ) → file-refusal l file ≡ 0 → Bytes file → length (report (job-in file)) ≤ l .report
+unfolding job-in job-of
 report-short {l} sound file accepted b =
     let g : Good-file l file = accepted-good l file accepted in
     let counts = fine-counts (stream-good file g .fine) in

@@ -18,7 +18,13 @@ ghost use Rattle.report.specs.Reported.{Reported};
 ghost use Rattle.replayer.specs.Replay.{job-in, replay-number, replay-length, replay-report, replay-work};
 
 // Runs the job of a stream in blank lent memory, and writes its report.
-fn replay_in(stream: &[u8], nodes: &mut [u16], ops: &mut [u16], by: &mut [u16], out: &mut [u8]) -> usize
+fn replay_in(
+    stream: &[u8],
+    nodes: &mut [u16],
+    ops: &mut [u16],
+    by: &mut [u16],
+    out: &mut [u8],
+) -> usize
     requires { ⌜ Ready (now stream) × (length (Report.report (job-of (now stream))) ≤ length (now out)) ⌝ }
     requires { ⌜ Room (now nodes) (now ops) (now by) × AllBlank (now nodes) (now ops) (now by) ⌝ }
     ensures { λ r. ⌜ Reported (now (out .entry)) (now (out .exit)) r (Report.report (job-of (now (stream .entry)))) ⌝ }

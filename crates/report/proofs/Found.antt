@@ -36,6 +36,15 @@ use Rattle.lines.specs.Lines.{member, found-line}
 use Rattle.report.specs.Found.{here, found, line-at, found-lines, Within}
 use Rattle.report.proofs.Facts.{item-operation, no-effect, ended-empty, maker-operation, idle-line}
 
+-- what stands at its own step, there and elsewhere
+pub is-here : {own s : ℕ} (f : Found) → own ≡ s → f ≡ here own s f
+unfolding here
+is-here f e = sym (pick-then f Nothing (equal-same e))
+
+pub not-here : {own s : ℕ} (f : Found) → own ≢ s → Nothing ≡ here own s f
+unfolding here
+not-here f e = sym (pick-else f Nothing (unequal-same e))
+
 -- what is found, by what was read in the row
 module _ (c : Cells) (s : ℕ) (o : Operation) where
   pub found-idle : o .0 ≡ 0 → Nothing ≡ found c s o

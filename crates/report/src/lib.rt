@@ -26,7 +26,7 @@ ghost use Rattle.job.specs.Job.{job-of};
 ghost use Rattle.journal.specs.Journal.{Agrees};
 ghost use Rattle.lines.specs.Members.{Bounds, «first-node»};
 ghost use Rattle.wording.specs.Report.{operation-lines, record-lines, report};
-ghost use Rattle.report.specs.Found.{here, found, found-lines, Within};
+ghost use Rattle.report.specs.Found.{found, found-lines, Within};
 ghost use Rattle.report.specs.Reported.{Leaves, Reported};
 
 // The cells of the bounds of takers: a row for each operation.
@@ -47,16 +47,6 @@ fn operation_lines(out: &mut [u8], at: usize, stream: &[u8], ops: &[u16], count:
     place
 }
 
-// What stands at a step, if its own step is this one.
-fn here(own: u16, s: Step, found: Found) -> Found
-    ensures { λ r. ⌜ r ≡ here own (s .0) found ⌝ }
-{
-    if own == s.0 {
-        return found;
-    }
-    Found::Nothing
-}
-
 // What stands at a step, by the row of the operation that made it: none of an idle step.
 fn found_at(ops: &[u16], s: Step, o: Operation) -> Found
     requires { ⌜ HasRows (o .0) (now ops) × (1 ≤ o .0 → HasRows (cells (now ops) Taken (o .0)) (now ops)) ⌝ }
@@ -67,20 +57,25 @@ fn found_at(ops: &[u16], s: Step, o: Operation) -> Found
     }
     let link = cell(ops, o.0, rows::LINK);
     if link != 0 {
-        return here(link, s, Found::Put(o));
+        if link != s.0 {
+            return Found::Nothing;
+        }
+        return Found::Put(o);
     }
     let item = cell(ops, o.0, rows::TAKEN);
     if item != 0 {
-        return here(
-            cell(ops, item, rows::STANDS),
-            s,
-            Found::Takers(Operation(item)),
-        );
+        if cell(ops, item, rows::STANDS) != s.0 {
+            return Found::Nothing;
+        }
+        return Found::Takers(Operation(item));
     }
     if cell(ops, o.0, rows::LAST) == 0 {
         return Found::Nothing;
     }
-    here(cell(ops, o.0, rows::START), s, Found::Empty(o))
+    if cell(ops, o.0, rows::START) != s.0 {
+        return Found::Nothing;
+    }
+    Found::Empty(o)
 }
 
 // The lines of the steps up to `reach`, in step order, with bounds on where each item's takers are.

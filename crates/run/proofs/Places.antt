@@ -25,13 +25,13 @@ pub record LinedUp (j : Job) (n : ℕ) (places : List Place) : Type 0 where
   pub each : (p : ℕ) → p < n → getD places p nowhere ≡ before j (operation-after j p 0)
 
 module _ (j : Job) where
-  pub lined-first : (r : Place) → r ≡ before j (operation-after j 0 0) → LinedUp j 1 (replicate 8 r)
+  pub lined-first : (r : Place) → r ≡ before j (operation-after j 0 0) → LinedUp j 1 (replicate (field .processes) r)
   lined-first r e =
       record {
-        eight = length-replicate 8 r;
+        eight = length-replicate (field .processes) r;
         each = λ p h.
             let z : p ≡ 0 = omega arith in
-            subst (λ q. getD (replicate 8 r) q nowhere ≡ before j (operation-after j q 0)) (sym z) e;
+            subst (λ q. getD (replicate (field .processes) r) q nowhere ≡ before j (operation-after j q 0)) (sym z) e;
       }
 
   pub lined-next : (places : List Place) (p : ℕ) (r : Place) → p < field .processes → LinedUp j p places → r ≡ before j (operation-after j p 0) → LinedUp j (p + 1) (set places p r)

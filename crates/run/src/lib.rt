@@ -143,7 +143,13 @@ fn make(
 
 // Runs the whole schedule. The lent memory is blank; it is left with the nodes' rows and with the journal. The run is over when no process
 // has operations left, since no step behind that changes anything.
-pub fn run_all(stream: &[u8], job: Heading, nodes: &mut [u16], ops: &mut [u16], by: &mut [u16]) -> Finish
+pub fn run_all(
+    stream: &[u8],
+    job: Heading,
+    nodes: &mut [u16],
+    ops: &mut [u16],
+    by: &mut [u16],
+) -> Finish
     requires { ⌜ Runnable (now stream) job ⌝ }
     requires { ⌜ Room (now nodes) (now ops) (now by) × AllBlank (now nodes) (now ops) (now by) ⌝ }
     ensures { λ r. ⌜ Ran (job-of (now (stream .entry))) (job .steps) (r .head) (r .tail) (r .top) (now (nodes .exit)) (now (ops .exit)) (now (by .exit)) ⌝ }

@@ -54,7 +54,14 @@ fn logged(d: Accessed, own: Operation, k: Step, ops: &mut [u16]) -> Accessed
 }
 
 // The access `a` of operation `own`, at step k. It is noted in the arm that makes it, where the compiled code knows what it was.
-fn perform(a: Access, own: Operation, k: Step, c: Scalars, nodes: &mut [u16], ops: &mut [u16]) -> Accessed
+fn perform(
+    a: Access,
+    own: Operation,
+    k: Step,
+    c: Scalars,
+    nodes: &mut [u16],
+    ops: &mut [u16],
+) -> Accessed
     requires { ⌜ Inside (own .0) (c .h) (c .t) (now nodes) × HasCells (heard a (own .0) c (now nodes)) (own .0) (now ops) ⌝ }
     ensures { λ d. ⌜ Does a (own .0) c (now (nodes .entry)) d (now (nodes .exit)) ⌝ }
     ensures { λ d. ⌜ cells (now (ops .exit)) ≡ noted (heard a (own .0) c (now (nodes .entry))) (own .0) (k .0) (cells (now (ops .entry))) ⌝ }

@@ -2,15 +2,16 @@
 use native.Mathlib.Omega.{arith}
 use Prim.Native.Nat.{_-_, _≤_}
 use Rattle.job.specs.Job.{job-of}
+use Rattle.job.specs.Limits.{field}
 use Rattle.run.proofs.Places.{LinedUp, lined-first, lined-next, lined-all}
 use Rattle.run.proofs.line_up.Statement.{statement}
 use Rattle.run.proofs.line_up.Tie as tie
 
 abbrev Inv-loop : tie.InvT-loop
-Inv-loop stream job run₀ p₀ run p = (p ≤ 8) × LinedUp (job-of stream) p (run .places)
+Inv-loop stream job run₀ p₀ run p = (p ≤ field .processes) × LinedUp (job-of stream) p (run .places)
 
 abbrev μ-loop : tie.MeasureT-loop
-μ-loop stream job run₀ p₀ run p = 8 - p
+μ-loop stream job run₀ p₀ run p = field .processes - p
 
 loop-again : tie.Need-loop-again Inv-loop μ-loop
 loop-again c =
