@@ -1,10 +1,10 @@
 -- How the search for a process's next operation goes on: it ends at what it finds, or past the last one. Assumes nothing.
-use mathlib.Core.Path.{_≡_, ap, sym, _∙_}
+use mathlib.Core.Path.{_≡_, ap, _∙_}
 use mathlib.Core.Logic.{_≢_}
 use Prim.Native.Nat.{ℕ, suc, _+_, _-_, _≤_, _<_}
 use native.Mathlib.Omega.{arith}
 use mathlib.Core.Bool.{Bool, true, false}
-use Rattle.basics.specs.Choice.{pick, same}
+use Rattle.basics.specs.Choice.{same}
 use Rattle.basics.proofs.Choice.{pick-then, pick-else, equal-same, unequal-same}
 use Rattle.job.specs.Job.{Job}
 use Rattle.machine.specs.Run.{seek, operation-after}

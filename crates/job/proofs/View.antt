@@ -1,6 +1,6 @@
 -- One view of an accepted file, for any limits: its joined payloads, the stream in them, and that stream with zeros behind it, which is what
 -- the work memory holds. Each is read everywhere as the others are. Assumes nothing.
-use mathlib.Core.Path.{_≡_, refl, sym, ap, subst, fun-ext, _∙_}
+use mathlib.Core.Path.{_≡_, refl, sym, ap, fun-ext, _∙_}
 use Prim.Native.Nat.{ℕ, zero, suc, _+_, _-_, _*_, _≤_, _<_}
 use native.Mathlib.Omega.{arith}
 use mathlib.Core.Bool.{not}
@@ -147,13 +147,10 @@ module _ {l : Limits} (file : List ℕ) (g : Good-file l file) where
       ∙ ap (λ (n : ℕ). length (stream-of file) + n) (length-replicate (most-stream l - length (stream-of file)) 0)
       ∙ (let h : length (stream-of file) ≤ most-stream l = stream-fits in omega arith)
 
-  -- it is read as the joined payloads are, and so is bytes, in range, and the same job
+  -- it is read as the joined payloads are, and so is in range, and the same job
   at-filled : at (zero-filled l file) ≡ at (joined file)
   unfolding zero-filled zeros-behind
   at-filled = at-zeros (stream-of file) _ ∙ sym (at-zeros (stream-of file) _) ∙ ap at joined-is
-
-  pub filled-bytes : Bytes file → Bytes (zero-filled l file)
-  filled-bytes h = record { byte = λ i. subst (λ (f : ℕ → ℕ). f i < 256) (sym at-filled) (joined-bytes file h .byte i) }
 
   pub filled-job : job-of (zero-filled l file) ≡ job-of (stream-of file)
   unfolding zero-filled zeros-behind

@@ -81,7 +81,7 @@ module _ (c : Cells) (s : ℕ) (o : Operation) where
           ∙ found-bare y
 
 -- who is found is within the count
-pub member-within : (c : Cells) (s : ℕ) (o : Operation) (count : ℕ) → o .0 ≤ count → (1 ≤ o .0 → c Taken (o .0) ≤ count) → member (found c s o) ≤ count
+member-within : (c : Cells) (s : ℕ) (o : Operation) (count : ℕ) → o .0 ≤ count → (1 ≤ o .0 → c Taken (o .0) ≤ count) → member (found c s o) ≤ count
 unfolding found here member
 member-within c s o count low item =
     pick-elim P (same (o .0) 0) Nothing _ (λ e. omega arith) (λ acts. let some : o .0 ≢ 0 = same-unequal acts in

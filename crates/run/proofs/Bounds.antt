@@ -21,7 +21,7 @@ module _ {stream : List ℕ} {job : Heading} (r : Runnable stream job) where
   pub its-count : job .count ≡ job-of stream .count
   its-count = ap (λ (h : Heading). h .count) (r .told)
 
-  pub its-steps : job .steps ≡ job-of stream .steps
+  its-steps : job .steps ≡ job-of stream .steps
   its-steps = ap (λ (h : Heading). h .steps) (r .told)
 
   pub few : job .count ≤ field .operations

@@ -1,5 +1,5 @@
 -- The places of a run: eight before their first operations, and how many still have operations. Assumes nothing.
-use mathlib.Core.Path.{_≡_, refl, sym, ap, subst, _∙_}
+use mathlib.Core.Path.{_≡_, sym, ap, subst, _∙_}
 use mathlib.Core.Logic.{_≢_, _⊎_, inl, inr}
 use Prim.Native.Nat.{ℕ, zero, suc, _+_, _≤_, _<_}
 use native.Mathlib.Nat.{not-suc-le-zero, le-of-suc-le-suc}
@@ -16,7 +16,7 @@ use Rattle.machine.specs.Run.{before, operation-after, fresh-state, state-after
 use Rattle.run.specs.Promise.{nowhere, InPlace, still, working}
 
 -- places stay eight where one is stored
-pub eight-kept : (places : List Place) (p : ℕ) (r : Place) → length places ≡ field .processes → length (set places p r) ≡ field .processes
+eight-kept : (places : List Place) (p : ℕ) (r : Place) → length places ≡ field .processes → length (set places p r) ≡ field .processes
 eight-kept places p r eight = length-set places p r ∙ eight
 
 -- the first n places are before their processes' first operations
