@@ -5,13 +5,14 @@ use machine::Event;
 use machine::Outcome;
 use rows::MARK;
 use rows::NEXT;
+use rows::NODES;
 use rows::cell;
 use rows::store;
 ghost use mathlib.Core.Path.{_≡_};
 ghost use Prim.Native.Nat.{ℕ};
 ghost use Rattle.machine.specs.declared.Access.the-variants.{ReadHead, ReadTail, ReadNextOfH, ReadNextOfT, Link, TailToOwn, TailToN, HeadToN, ReadTopToPut, ReadTopToTake, ReadMark, Push, RaiseMark, TopToNext};
 ghost use Rattle.basics.specs.Choice.{same};
-ghost use Rattle.rows.specs.Rows.{HasRows};
+ghost use Rattle.rows.specs.Nodes.{HasNodes};
 ghost use Rattle.machine.specs.Memory.{set-from-to, yes-if};
 ghost use Rattle.access.specs.View.{Does, Does-alone, answered};
 
@@ -100,10 +101,10 @@ pub fn read_tail(mut c: Scalars) -> Accessed
 
 // "T3 read h's next as n: if h = t and n is none, end, empty; if h = t, T4; else T5."
 pub fn read_next_of_h(mut c: Scalars, nodes: &[u16]) -> Accessed
-    requires { ⌜ HasRows (c .h) (now nodes) ⌝ }
+    requires { ⌜ HasNodes (c .h) (now nodes) ⌝ }
     ensures { λ d. ⌜ ((own : ℕ) → Does ReadNextOfH own c (now (nodes .entry)) d (now (nodes .entry))) ⌝ }
 {
-    c.n = cell(nodes, c.h, NEXT);
+    c.n = cell(nodes, NODES, c.h, NEXT);
     if c.h != c.t {
         return answer(c, Outcome::Yes, Event::Quiet);
     }
@@ -115,21 +116,21 @@ pub fn read_next_of_h(mut c: Scalars, nodes: &[u16]) -> Accessed
 
 // "Q2 read t's next as n: none, go to Q3; else Q5."
 pub fn read_next_of_t(mut c: Scalars, nodes: &[u16]) -> Accessed
-    requires { ⌜ HasRows (c .t) (now nodes) ⌝ }
+    requires { ⌜ HasNodes (c .t) (now nodes) ⌝ }
     ensures { λ d. ⌜ ((own : ℕ) → Does ReadNextOfT own c (now (nodes .entry)) d (now (nodes .entry))) ⌝ }
 {
-    c.n = cell(nodes, c.t, NEXT);
+    c.n = cell(nodes, NODES, c.t, NEXT);
     let outcome = yes_if_same(c.n, NONE);
     answer(c, outcome, Event::Quiet)
 }
 
 // "Q3 set t's next from none to the own node: changed, Q4; else Q1."
 pub fn link_own(own: Operation, c: Scalars, nodes: &mut [u16]) -> Accessed
-    requires { ⌜ HasRows (c .t) (now nodes) ⌝ }
+    requires { ⌜ HasNodes (c .t) (now nodes) ⌝ }
     ensures { λ d. ⌜ Does Link (own .0) c (now (nodes .entry)) d (now (nodes .exit)) ⌝ }
 {
-    if cell(nodes, c.t, NEXT) == NONE {
-        store(nodes, c.t, NEXT, own.0);
+    if cell(nodes, NODES, c.t, NEXT) == NONE {
+        store(nodes, NODES, c.t, NEXT, own.0);
         return answer(c, Outcome::Yes, Event::Linked);
     }
     answer(c, Outcome::No, Event::Quiet)
@@ -186,21 +187,21 @@ pub fn read_top_to_take(mut c: Scalars) -> Accessed
 
 // "P2 read t's mark: clear, P3; else P4." "R2 read t's mark: clear, R3; else R5."
 pub fn read_mark(c: Scalars, nodes: &[u16]) -> Accessed
-    requires { ⌜ HasRows (c .t) (now nodes) ⌝ }
+    requires { ⌜ HasNodes (c .t) (now nodes) ⌝ }
     ensures { λ d. ⌜ ((own : ℕ) → Does ReadMark own c (now (nodes .entry)) d (now (nodes .entry))) ⌝ }
 {
-    let outcome = yes_if_same(cell(nodes, c.t, MARK), CLEAR);
+    let outcome = yes_if_same(cell(nodes, NODES, c.t, MARK), CLEAR);
     answer(c, outcome, Event::Quiet)
 }
 
 // "P3 set Top from t to the own node, whose next becomes t: changed, end, done; else P1."
 pub fn push(own: Operation, mut c: Scalars, nodes: &mut [u16]) -> Accessed
-    requires { ⌜ HasRows (own .0) (now nodes) ⌝ }
+    requires { ⌜ HasNodes (own .0) (now nodes) ⌝ }
     ensures { λ d. ⌜ Does Push (own .0) c (now (nodes .entry)) d (now (nodes .exit)) ⌝ }
 {
     if c.top == c.t {
         c.top = own.0;
-        store(nodes, own.0, NEXT, c.t);
+        store(nodes, NODES, own.0, NEXT, c.t);
         return answer(c, Outcome::Yes, Event::Linked);
     }
     answer(c, Outcome::No, Event::Quiet)
@@ -208,19 +209,19 @@ pub fn push(own: Operation, mut c: Scalars, nodes: &mut [u16]) -> Accessed
 
 // "R3 raise t's mark."
 pub fn raise_mark(c: Scalars, nodes: &mut [u16]) -> Accessed
-    requires { ⌜ HasRows (c .t) (now nodes) ⌝ }
+    requires { ⌜ HasNodes (c .t) (now nodes) ⌝ }
     ensures { λ d. ⌜ ((own : ℕ) → Does RaiseMark own c (now (nodes .entry)) d (now (nodes .exit))) ⌝ }
 {
-    store(nodes, c.t, MARK, RAISED);
+    store(nodes, NODES, c.t, MARK, RAISED);
     answer(c, Outcome::Yes, Event::Raised(c.t))
 }
 
 // "P4", "R4" and "R5 set Top from t to t's next"
 pub fn top_to_next(mut c: Scalars, nodes: &[u16]) -> Accessed
-    requires { ⌜ HasRows (c .t) (now nodes) ⌝ }
+    requires { ⌜ HasNodes (c .t) (now nodes) ⌝ }
     ensures { λ d. ⌜ ((own : ℕ) → Does TopToNext own c (now (nodes .entry)) d (now (nodes .entry))) ⌝ }
 {
     let outcome = yes_if_same(c.top, c.t);
-    c.top = set_from_to(c.top, c.t, cell(nodes, c.t, NEXT));
+    c.top = set_from_to(c.top, c.t, cell(nodes, NODES, c.t, NEXT));
     answer(c, outcome, Event::Quiet)
 }

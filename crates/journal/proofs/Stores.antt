@@ -8,7 +8,7 @@ use Rattle.basics.specs.Maps.{at, upd}
 use Rattle.basics.proofs.Choice.{pick-then, pick-else, equal-same, unequal-same}
 use Rattle.basics.proofs.Maps.{upd-id}
 use Rattle.rows.specs.Rows.{place, column}
-use Rattle.rows.specs.Operations.{number, cells, stored}
+use Rattle.rows.specs.Operations.{number, op-width, cells, stored}
 use Rattle.rows.specs.Operations.Column.{Taken, Stands}
 use Rattle.rows.proofs.Operations.{cells-stored}
 use Rattle.journal.specs.Stored.{earlier}
@@ -30,7 +30,7 @@ unfolding earlier
 earlier-some old k e = sym (pick-else k old (unequal-same e))
 
 -- an item that was taken, and then where its takers' line stands by what stood there
-pub taken-and-stands : (g : ℕ → ℕ) (l l₁ l₂ : List ℕ) (o n : ℕ) → at l₁ ≡ upd (at l) (place o (number Taken)) n → at l₂ ≡ upd (at l₁) (place n (number Stands)) (g (column (number Stands) (at l₁) n)) → cells l₂ ≡ stored Stands n (g (cells l Stands n)) (stored Taken o n (cells l))
+pub taken-and-stands : (g : ℕ → ℕ) (l l₁ l₂ : List ℕ) (o n : ℕ) → at l₁ ≡ upd (at l) (place op-width o (number Taken)) n → at l₂ ≡ upd (at l₁) (place op-width n (number Stands)) (g (column op-width (number Stands) (at l₁) n)) → cells l₂ ≡ stored Stands n (g (cells l Stands n)) (stored Taken o n (cells l))
 unfolding stored pick same
 taken-and-stands g l l₁ l₂ o n first then =
     cells-stored Stands l₁ l₂ n (g (cells l₁ Stands n)) then

@@ -6,8 +6,7 @@ use mathlib.Core.Bool.{Bool}
 use mathlib.Core.List.{List}
 use Rattle.basics.specs.Choice.{pick, same}
 use Rattle.basics.specs.Maps.{at, upd}
-use Rattle.rows.specs.Rows.{HasRows}
-use Rattle.rows.specs.Operations.{Cells, cells, stored}
+use Rattle.rows.specs.Operations.{HasOps, Cells, cells, stored}
 use Rattle.rows.specs.Operations.Column.{First, Last, Start, Link, Taken, Stands}
 use Rattle.machine.specs.Journal.{item-of}
 use Rattle.machine.specs.declared.Event.{Event}
@@ -41,5 +40,5 @@ pub record Stored (e : Event) (ends : Bool) (o k : ℕ) (ops by ops′ by′ : L
 
 -- the rows of an operation and of an event's item are there
 pub record HasCells (e : Event) (o : ℕ) (ops : List ℕ) : Type 0 where
-  pub own-row : HasRows o ops
-  pub item-row : HasRows (item-of e) ops
+  pub own-row : HasOps o ops
+  pub item-row : HasOps (item-of e) ops

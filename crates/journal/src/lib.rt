@@ -3,8 +3,8 @@ ghost use mathlib.Core.Path.{_≡_};
 ghost use Prim.Native.Nat.{_<_, max};
 ghost use lib.ListN.{length};
 ghost use Rattle.basics.specs.Maps.{at, upd};
-ghost use Rattle.rows.specs.Rows.{row-size, place, column, HasRows};
-ghost use Rattle.rows.specs.Operations.{cells, stored};
+ghost use Rattle.rows.specs.Rows.{place, column};
+ghost use Rattle.rows.specs.Operations.{op-width, HasOps, cells, stored};
 ghost use Rattle.rows.specs.Operations.Column.{Taken, Stands};
 ghost use Rattle.journal.specs.Stored.{earlier, entered, noted, closed, HasCells};
 use job::Operation;
@@ -15,39 +15,39 @@ use rows::store;
 
 // Stores a step in a cell that has none yet.
 fn store_first(ops: &mut [u16], i: u16, f: usize, k: Step)
-    requires { ⌜ (f < row-size) × HasRows i (now ops) ⌝ }
-    ensures { λ _. ⌜ at (now (ops .exit)) ≡ upd (at (now (ops .entry))) (place i f) (earlier (column f (at (now (ops .entry))) i) (k .0)) ⌝ }
+    requires { ⌜ (f < op-width) × HasOps i (now ops) ⌝ }
+    ensures { λ _. ⌜ at (now (ops .exit)) ≡ upd (at (now (ops .entry))) (place op-width i f) (earlier (column op-width f (at (now (ops .entry))) i) (k .0)) ⌝ }
 {
-    if cell(ops, i, f) == 0 {
-        store(ops, i, f, k.0);
+    if cell(ops, rows::OPS, i, f) == 0 {
+        store(ops, rows::OPS, i, f, k.0);
     }
 }
 
 // Stores a step in a cell whose step is not later.
 fn store_later(ops: &mut [u16], i: u16, f: usize, k: Step)
-    requires { ⌜ (f < row-size) × HasRows i (now ops) ⌝ }
-    ensures { λ _. ⌜ at (now (ops .exit)) ≡ upd (at (now (ops .entry))) (place i f) (max (column f (at (now (ops .entry))) i) (k .0)) ⌝ }
+    requires { ⌜ (f < op-width) × HasOps i (now ops) ⌝ }
+    ensures { λ _. ⌜ at (now (ops .exit)) ≡ upd (at (now (ops .entry))) (place op-width i f) (max (column op-width f (at (now (ops .entry))) i) (k .0)) ⌝ }
 {
-    if cell(ops, i, f) < k.0 {
-        store(ops, i, f, k.0);
+    if cell(ops, rows::OPS, i, f) < k.0 {
+        store(ops, rows::OPS, i, f, k.0);
     }
 }
 
 // T5 moved Head: the operation took the item, whose line stands at the first such step.
 fn note_move(n: u16, o: Operation, k: Step, ops: &mut [u16])
-    requires { ⌜ HasRows (o .0) (now ops) × HasRows n (now ops) ⌝ }
+    requires { ⌜ HasOps (o .0) (now ops) × HasOps n (now ops) ⌝ }
     ensures { λ _. ⌜ cells (now (ops .exit)) ≡ stored Stands n (earlier (cells (now (ops .entry)) Stands n) (k .0)) (stored Taken (o .0) n (cells (now (ops .entry)))) ⌝ }
 {
-    store(ops, o.0, rows::TAKEN, n);
+    store(ops, rows::OPS, o.0, rows::TAKEN, n);
     store_first(ops, n, rows::STANDS, k);
 }
 
 // R3: the operation took the item, whose line stands at the latest of its takers' last rounds.
 fn note_raise(t: u16, o: Operation, round: Step, ops: &mut [u16])
-    requires { ⌜ HasRows (o .0) (now ops) × HasRows t (now ops) ⌝ }
+    requires { ⌜ HasOps (o .0) (now ops) × HasOps t (now ops) ⌝ }
     ensures { λ _. ⌜ cells (now (ops .exit)) ≡ stored Stands t (max (cells (now (ops .entry)) Stands t) (round .0)) (stored Taken (o .0) t (cells (now (ops .entry)))) ⌝ }
 {
-    store(ops, o.0, rows::TAKEN, t);
+    store(ops, rows::OPS, o.0, rows::TAKEN, t);
     store_later(ops, t, rows::STANDS, round);
 }
 
@@ -58,12 +58,12 @@ pub fn note(event: Event, o: Operation, k: Step, ops: &mut [u16])
 {
     match event {
         Event::Quiet => {}
-        Event::Round => store(ops, o.0, rows::START, k.0),
-        Event::Linked => store(ops, o.0, rows::LINK, k.0),
+        Event::Round => store(ops, rows::OPS, o.0, rows::START, k.0),
+        Event::Linked => store(ops, rows::OPS, o.0, rows::LINK, k.0),
         Event::Moved(n) => note_move(n, o, k, ops),
-        Event::Late(n) => store(ops, o.0, rows::TAKEN, n),
+        Event::Late(n) => store(ops, rows::OPS, o.0, rows::TAKEN, n),
         Event::Raised(t) => {
-            let round = Step(cell(ops, o.0, rows::START));
+            let round = Step(cell(ops, rows::OPS, o.0, rows::START));
             note_raise(t, o, round, ops)
         }
     }
@@ -71,7 +71,7 @@ pub fn note(event: Event, o: Operation, k: Step, ops: &mut [u16])
 
 // Enters step k, made by operation o.
 pub fn enter(o: Operation, k: Step, ops: &mut [u16], by: &mut [u16])
-    requires { ⌜ HasRows (o .0) (now ops) × (k .0 < length (now by)) ⌝ }
+    requires { ⌜ HasOps (o .0) (now ops) × (k .0 < length (now by)) ⌝ }
     ensures { λ _. ⌜ cells (now (ops .exit)) ≡ entered (o .0) (k .0) (cells (now (ops .entry))) ⌝ }
     ensures { λ _. ⌜ at (now (by .exit)) ≡ upd (at (now (by .entry))) (k .0) (o .0) ⌝ }
 {
@@ -81,10 +81,10 @@ pub fn enter(o: Operation, k: Step, ops: &mut [u16], by: &mut [u16])
 
 // Enters step k as the last of operation o, if it ended there.
 pub fn enter_end(ends: bool, o: Operation, k: Step, ops: &mut [u16])
-    requires { ⌜ HasRows (o .0) (now ops) ⌝ }
+    requires { ⌜ HasOps (o .0) (now ops) ⌝ }
     ensures { λ _. ⌜ cells (now (ops .exit)) ≡ closed ends (o .0) (k .0) (cells (now (ops .entry))) ⌝ }
 {
     if ends {
-        store(ops, o.0, rows::LAST, k.0);
+        store(ops, rows::OPS, o.0, rows::LAST, k.0);
     }
 }

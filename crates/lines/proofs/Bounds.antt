@@ -13,7 +13,7 @@ use Rattle.rows.specs.Operations.{cells}
 use Rattle.rows.specs.Operations.Column.{Taken}
 use Rattle.rows.proofs.Rows.{own-column, other-column}
 use Rattle.text.proofs.Each.{Written, written-past}
-use Rattle.lines.specs.Members.{skips, beyonds, Unbounded, Bounds}
+use Rattle.lines.specs.Members.{bound-width, skips, beyonds, Unbounded, Bounds}
 use Rattle.lines.proofs.Spaced.{took, member, member-out}
 
 -- the bounds by the last `done` operations from the back, and the first `done` from the front
@@ -46,19 +46,19 @@ module _ {ops bounds : List ℕ} {count : ℕ} where
       }
 
 -- one operation more from either end: a store of what comes before the one, and a store of what is behind the other
-module _ {ops bounds : List ℕ} (low high : List ℕ) {count done : ℕ} (l h : ℕ) (b : Bounded ops bounds count done) (more : done < count) (taken-low : l ≡ cells ops Taken (count - done)) (s : at low ≡ upd (at bounds) (place l 0) (count - done - 1)) (taken-high : h ≡ cells ops Taken (done + 1)) (t : at high ≡ upd (at low) (place h 1) (count - (done + 1))) where
+module _ {ops bounds : List ℕ} (low high : List ℕ) {count done : ℕ} (l h : ℕ) (b : Bounded ops bounds count done) (more : done < count) (taken-low : l ≡ cells ops Taken (count - done)) (s : at low ≡ upd (at bounds) (place bound-width l 0) (count - done - 1)) (taken-high : h ≡ cells ops Taken (done + 1)) (t : at high ≡ upd (at low) (place bound-width h 1) (count - (done + 1))) where
   skips-stored : skips high ≡ upd (skips bounds) l (count - done - 1)
   skips-stored =
-      ap (column 0) t
+      ap (column bound-width 0) t
       ∙ other-column (at low) h (count - (done + 1)) (omega arith) (omega arith) (λ z. let no : ⊥ = omega arith in no)
-      ∙ ap (column 0) s
-      ∙ own-column (at bounds) l 0 (count - done - 1)
+      ∙ ap (column bound-width 0) s
+      ∙ own-column (at bounds) l (count - done - 1) (omega arith)
 
   beyonds-stored : beyonds high ≡ upd (beyonds bounds) h (count - (done + 1))
   beyonds-stored =
-      ap (column 1) t
-      ∙ own-column (at low) h 1 (count - (done + 1))
-      ∙ ap (λ (m : ℕ → ℕ). upd m h (count - (done + 1))) (ap (column 1) s ∙ other-column (at bounds) l (count - done - 1) (omega arith) (omega arith) (λ z. let no : ⊥ = omega arith in no))
+      ap (column bound-width 1) t
+      ∙ own-column (at low) h (count - (done + 1)) (omega arith)
+      ∙ ap (λ (m : ℕ → ℕ). upd m h (count - (done + 1))) (ap (column bound-width 1) s ∙ other-column (at bounds) l (count - done - 1) (omega arith) (omega arith) (λ z. let no : ⊥ = omega arith in no))
 
   from-more : (o : ℕ) → count < o + (done + 1) → o ≤ count → skips high (cells ops Taken o) < o
   from-more o from to =
@@ -81,9 +81,9 @@ module _ {ops bounds : List ℕ} (low high : List ℕ) {count done : ℕ} (l h :
   small-still : (i : ℕ) → at high i ≤ count
   small-still i =
       let before : (i : ℕ) → at low i ≤ count =
-      λ i. subst (λ (m : ℕ → ℕ). m i ≤ count) (sym s) (upd-elim (λ x. x ≤ count) (at bounds) (place l 0) (count - done - 1) i (λ here. omega arith) (λ other. b .may .small i))
+      λ i. subst (λ (m : ℕ → ℕ). m i ≤ count) (sym s) (upd-elim (λ x. x ≤ count) (at bounds) (place bound-width l 0) (count - done - 1) i (λ here. omega arith) (λ other. b .may .small i))
       in
-      subst (λ (m : ℕ → ℕ). m i ≤ count) (sym t) (upd-elim (λ x. x ≤ count) (at low) (place h 1) (count - (done + 1)) i (λ here. omega arith) (λ other. before i))
+      subst (λ (m : ℕ → ℕ). m i ≤ count) (sym t) (upd-elim (λ x. x ≤ count) (at low) (place bound-width h 1) (count - (done + 1)) i (λ here. omega arith) (λ other. before i))
 
   pub bounded-more : length high ≡ length bounds → Bounded ops high count (done + 1)
   bounded-more kept =
@@ -99,9 +99,9 @@ pub item-within : {ops bounds : List ℕ} {count done n : ℕ} (o : ℕ) → Bou
 item-within o b e from to = omega (arith, b .may .items o from to, e)
 
 -- a bound that was read is at most the count
-pub small-bound : {ops bounds : List ℕ} {count n : ℕ} → Bounds ops bounds count → (f i : ℕ) → n ≡ column f (at bounds) i → n ≤ count
+pub small-bound : {ops bounds : List ℕ} {count n : ℕ} → Bounds ops bounds count → (f i : ℕ) → n ≡ column bound-width f (at bounds) i → n ≤ count
 unfolding column
-small-bound b f i e = omega (arith, e, b .small (place i f))
+small-bound b f i e = omega (arith, e, b .small (place bound-width i f))
 
 -- the takers of an item, written one by one: none comes before the bound, and none behind
 module _ {ops bounds : List ℕ} {count : ℕ} (b : Bounds ops bounds count) (item : ℕ) {i : ℕ} {before after : List ℕ} {at place : ℕ} (w : Written (member (took ops item)) count i before after at place) where

@@ -5,9 +5,9 @@ use mathlib.Core.List.{List}
 use Rattle.basics.specs.Choice.{same}
 use Rattle.basics.specs.Maps.{at}
 use Rattle.rows.specs.Rows.{column, HasRows}
-use Rattle.rows.specs.Operations.{cells}
+use Rattle.rows.specs.Operations.{HasOps, cells}
 use Rattle.rows.specs.Operations.Column.{Taken}
-use Rattle.rows.specs.Nodes.{nexts, marks}
+use Rattle.rows.specs.Nodes.{HasNodes, nexts, marks}
 use Rattle.job.specs.declared.Kind.{Kind}
 use Rattle.job.specs.declared.Kind.the-variants.{Queue, Stack}
 use Rattle.machine.specs.Effects.{numbers, sift}
@@ -17,24 +17,31 @@ use Rattle.machine.specs.Left.{walk}
 unfoldable pub takers-of : (ℕ → ℕ) → ℕ → ℕ → List ℕ
 takers-of taken count item = sift (λ o. same (taken o) item) (numbers count)
 
+-- how many columns an item's row of bounds has, and that a list has the rows of items up to item `n`
+abbrev pub bound-width : ℕ
+bound-width = 2
+
+abbrev pub HasBounds : ℕ → List ℕ → Type 0
+HasBounds n l = HasRows bound-width n l
+
 -- every operation's item has a row, and bounds may be stored: none is past `count` yet
 pub record Unbounded (ops bounds : List ℕ) (count : ℕ) : Type 0 where
-  pub has-ops : HasRows count ops
-  pub has-bounds : HasRows count bounds
+  pub has-ops : HasOps count ops
+  pub has-bounds : HasBounds count bounds
   pub items : (o : ℕ) → 1 ≤ o → o ≤ count → cells ops Taken o ≤ count
   pub small : (i : ℕ) → at bounds i ≤ count
 
 -- how many operations come before an item's first taker, and how many behind its last
 abbrev pub skips : List ℕ → ℕ → ℕ
-skips l = column 0 (at l)
+skips l = column bound-width 0 (at l)
 
 abbrev pub beyonds : List ℕ → ℕ → ℕ
-beyonds l = column 1 (at l)
+beyonds l = column bound-width 1 (at l)
 
 -- where the takers of each item are: behind the operations that its row skips, and not among those beyond
 pub record Bounds (ops bounds : List ℕ) (count : ℕ) : Type 0 where
-  pub has-ops : HasRows count ops
-  pub has-bounds : HasRows count bounds
+  pub has-ops : HasOps count ops
+  pub has-bounds : HasBounds count bounds
   pub from : (o : ℕ) → 1 ≤ o → o ≤ count → skips bounds (cells ops Taken o) < o
   pub to : (o : ℕ) → 1 ≤ o → o ≤ count → o + beyonds bounds (cells ops Taken o) ≤ count
   pub small : (i : ℕ) → at bounds i ≤ count
@@ -55,6 +62,6 @@ left-from object nodes node count = sift (λ i. stays object (marks nodes i)) (w
 
 -- the nodes 0 to `count` have rows, every next is one of them, and so is the first
 pub record NodesThere (nodes : List ℕ) (count node : ℕ) : Type 0 where
-  pub has-nodes : HasRows count nodes
+  pub has-nodes : HasNodes count nodes
   pub within : (i : ℕ) → nexts nodes i ≤ count
   pub first : node ≤ count

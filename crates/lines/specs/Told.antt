@@ -4,8 +4,7 @@ use mathlib.Core.List.{List, _++_}
 use lib.ListN.{length}
 use Rattle.basics.specs.Choice.{pick, same}
 use Rattle.basics.specs.Text.{text, decimal}
-use Rattle.rows.specs.Rows.{HasRows}
-use Rattle.rows.specs.Operations.{Cells, cells}
+use Rattle.rows.specs.Operations.{HasOps, Cells, cells}
 use Rattle.rows.specs.Operations.Column.{First, Last, Link, Taken}
 use Rattle.job.specs.Stream.{record-at}
 use Rattle.job.specs.Job.{Job}
@@ -19,7 +18,7 @@ said link item = pick (same link 0) (pick (same item 0) Answer.empty (Answer.ite
 
 -- an operation has a row, and its record and its item's are in the stream
 pub record InStream (stream ops : List ℕ) (o : ℕ) : Type 0 where
-  pub row : HasRows o ops
+  pub row : HasOps o ops
   pub its-record : record-at o + 3 < length stream
   pub item-record : record-at (cells ops Taken o) + 3 < length stream
 

@@ -16,10 +16,9 @@ ghost use Prim.Native.Nat.{_+_, _≤_, _<_};
 ghost use lib.ListN.{length};
 ghost use Rattle.basics.specs.Text.{text, decimal};
 ghost use Rattle.text.specs.Laid.{Wrote};
-ghost use Rattle.rows.specs.Rows.{HasRows};
 ghost use Rattle.rows.specs.Operations.{cells};
 ghost use Rattle.rows.specs.Operations.Column.{Taken};
-ghost use Rattle.rows.specs.Nodes.{marks};
+ghost use Rattle.rows.specs.Nodes.{HasNodes, marks};
 ghost use Rattle.job.specs.Stream.{record-at};
 ghost use Rattle.job.specs.Job.{job-of};
 ghost use Rattle.machine.specs.Notes.{Answer};
@@ -40,6 +39,9 @@ pub enum Found {
 const SKIP: usize = 0;
 
 const BEYOND: usize = 1;
+
+// how many they are
+pub const BOUNDS: usize = 2;
 
 // The object of a stream.
 pub fn object_line(out: &mut [u8], at: usize, kind: Kind) -> usize
@@ -77,10 +79,10 @@ fn put_answer(out: &mut [u8], at: usize, stream: &[u8], ops: &[u16], o: Operatio
     requires { ⌜ InStream (now stream) (now ops) (o .0) × (at + length (answer-told (job-of (now stream)) (cells (now ops)) (o .0)) ≤ length (now out)) ⌝ }
     ensures { λ r. ⌜ Wrote (now (out .entry)) (now (out .exit)) at r (answer-told (job-of (now (stream .entry))) (cells (now (ops .entry))) (o .0)) ⌝ }
 {
-    if cell(ops, o.0, rows::LINK) != 0 {
+    if cell(ops, rows::OPS, o.0, rows::LINK) != 0 {
         return put_bytes(out, at, b" done");
     }
-    let item = cell(ops, o.0, rows::TAKEN);
+    let item = cell(ops, rows::OPS, o.0, rows::TAKEN);
     if item == 0 {
         return put_bytes(out, at, b" empty");
     }
@@ -92,7 +94,7 @@ fn put_end(out: &mut [u8], at: usize, stream: &[u8], ops: &[u16], o: Operation) 
     requires { ⌜ InStream (now stream) (now ops) (o .0) × (at + length (end-told (job-of (now stream)) (cells (now ops)) (o .0)) ≤ length (now out)) ⌝ }
     ensures { λ r. ⌜ Wrote (now (out .entry)) (now (out .exit)) at r (end-told (job-of (now (stream .entry))) (cells (now (ops .entry))) (o .0)) ⌝ }
 {
-    let last = cell(ops, o.0, rows::LAST);
+    let last = cell(ops, rows::OPS, o.0, rows::LAST);
     if last == 0 {
         return put_bytes(out, at, b" last - open");
     }
@@ -105,7 +107,7 @@ fn put_progress(out: &mut [u8], at: usize, stream: &[u8], ops: &[u16], o: Operat
     requires { ⌜ InStream (now stream) (now ops) (o .0) × (at + length (progress-told (job-of (now stream)) (cells (now ops)) (o .0)) ≤ length (now out)) ⌝ }
     ensures { λ r. ⌜ Wrote (now (out .entry)) (now (out .exit)) at r (progress-told (job-of (now (stream .entry))) (cells (now (ops .entry))) (o .0)) ⌝ }
 {
-    let first = cell(ops, o.0, rows::FIRST);
+    let first = cell(ops, rows::OPS, o.0, rows::FIRST);
     if first == 0 {
         return put_bytes(out, at, b" first - last - waiting");
     }
@@ -150,9 +152,9 @@ pub fn bound_takers(bounds: &mut [u16], ops: &[u16], count: u16)
     let mut o: u16 = 0;
     while o < count {
         let rest = count - o;
-        store(bounds, cell(ops, rest, rows::TAKEN), SKIP, rest - 1);
+        store(bounds, BOUNDS, cell(ops, rows::OPS, rest, rows::TAKEN), SKIP, rest - 1);
         o += 1;
-        store(bounds, cell(ops, o, rows::TAKEN), BEYOND, count - o);
+        store(bounds, BOUNDS, cell(ops, rows::OPS, o, rows::TAKEN), BEYOND, count - o);
     }
 }
 
@@ -169,11 +171,11 @@ fn put_takers(
     ensures { λ r. ⌜ Wrote (now (out .entry)) (now (out .exit)) at r (spaced (takers-of (cells (now (ops .entry)) Taken) count (item .0))) ⌝ }
 {
     let mut place = at;
-    let mut o = cell(bounds, item.0, SKIP);
-    let end = count - cell(bounds, item.0, BEYOND);
+    let mut o = cell(bounds, BOUNDS, item.0, SKIP);
+    let end = count - cell(bounds, BOUNDS, item.0, BEYOND);
     while o < end {
         o += 1;
-        if cell(ops, o, rows::TAKEN) != item.0 {
+        if cell(ops, rows::OPS, o, rows::TAKEN) != item.0 {
             continue;
         }
         place = put_spaced(out, place, o);
@@ -241,12 +243,12 @@ pub fn lay(
 
 // Is a node that is reached still there?
 fn stays(object: Kind, nodes: &[u16], node: u16) -> bool
-    requires { ⌜ HasRows node (now nodes) ⌝ }
+    requires { ⌜ HasNodes node (now nodes) ⌝ }
     ensures { λ r. ⌜ r ≡ stays object (marks (now (nodes .entry)) node) ⌝ }
 {
     match object {
         Kind::Queue => true,
-        Kind::Stack => cell(nodes, node, rows::MARK) == 0,
+        Kind::Stack => cell(nodes, rows::NODES, node, rows::MARK) == 0,
     }
 }
 
@@ -264,7 +266,7 @@ fn left_count(object: Kind, nodes: &[u16], node: u16, count: u16) -> u16
         }
         walked += 1;
         let here = i;
-        i = cell(nodes, here, rows::NEXT);
+        i = cell(nodes, rows::NODES, here, rows::NEXT);
         if stays(object, nodes, here) {
             total += 1;
         }
@@ -286,7 +288,7 @@ fn put_left(out: &mut [u8], at: usize, object: Kind, nodes: &[u16], node: u16, c
         }
         walked += 1;
         let here = i;
-        i = cell(nodes, here, rows::NEXT);
+        i = cell(nodes, rows::NODES, here, rows::NEXT);
         if stays(object, nodes, here) {
             place = put_spaced(out, place, here);
         }

@@ -3,29 +3,33 @@ use Prim.Native.Nat.{ℕ, _+_, _*_}
 use native.Mathlib.Omega.{arith}
 use lib.ListN.{replicate, length-replicate}
 use Rattle.basics.specs.Maps.{at}
-use Rattle.rows.specs.Rows.{row-size}
+use Rattle.rows.specs.Operations.{op-width}
+use Rattle.rows.specs.Nodes.{node-width}
 use Rattle.job.specs.Limits.{field}
 use Rattle.job.proofs.View.{zero-anywhere}
 use Rattle.run.specs.Promise.{Room, Blank, AllBlank}
 
--- how many cells the rows and the steps have
-abbrev rows : ℕ
-rows = row-size * (field .operations + 1)
+-- how many cells the lists have
+abbrev nodes : ℕ
+nodes = node-width * (field .operations + 1)
 
-abbrev cells : ℕ
-cells = field .steps + 1
+abbrev ops : ℕ
+ops = op-width * (field .operations + 1)
 
-pub fresh-room : Room (replicate rows 0) (replicate rows 0) (replicate cells 0)
+abbrev steps : ℕ
+steps = field .steps + 1
+
+pub fresh-room : Room (replicate nodes 0) (replicate ops 0) (replicate steps 0)
 fresh-room =
     record {
-      of-nodes = omega (arith, length-replicate {A = ℕ} rows 0);
-      of-ops = omega (arith, length-replicate {A = ℕ} rows 0);
-      of-steps = omega (arith, length-replicate {A = ℕ} cells 0);
+      of-nodes = omega (arith, length-replicate {A = ℕ} nodes 0);
+      of-ops = omega (arith, length-replicate {A = ℕ} ops 0);
+      of-steps = omega (arith, length-replicate {A = ℕ} steps 0);
     }
 
 blank : (m : ℕ) → Blank (replicate m 0)
 unfolding at
 blank m i = zero-anywhere m i
 
-pub fresh-blank : AllBlank (replicate rows 0) (replicate rows 0) (replicate cells 0)
-fresh-blank = record { no-node = blank rows; no-cell = blank rows; no-step = blank cells }
+pub fresh-blank : AllBlank (replicate nodes 0) (replicate ops 0) (replicate steps 0)
+fresh-blank = record { no-node = blank nodes; no-cell = blank ops; no-step = blank steps }

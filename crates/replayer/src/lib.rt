@@ -39,8 +39,8 @@ fn replay_stream(stream: &[u8], out: &mut [u8]) -> usize
     requires { ⌜ Ready (now stream) × (length (Report.report (job-of (now stream))) ≤ length (now out)) ⌝ }
     ensures { λ r. ⌜ Reported (now (out .entry)) (now (out .exit)) r (Report.report (job-of (now (stream .entry)))) ⌝ }
 {
-    let mut nodes = [0u16; Object::ROWS];
-    let mut ops = [0u16; Object::ROWS];
+    let mut nodes = [0u16; Object::NODES];
+    let mut ops = [0u16; Object::OPS];
     let mut by = [0u16; Object::STEPS];
     replay_in(stream, &mut nodes, &mut ops, &mut by, out)
 }

@@ -8,8 +8,7 @@ use mathlib.Core.List.{List, [], _∷_, _++_, append-assoc}
 use Rattle.basics.specs.Choice.{pick, same}
 use Rattle.basics.specs.Maps.{at}
 use Rattle.basics.proofs.Choice.{pick-then, pick-else, pick-elim, test-elim, equal-same, unequal-same, same-unequal, split}
-use Rattle.rows.specs.Rows.{HasRows}
-use Rattle.rows.specs.Operations.{Cells, cells}
+use Rattle.rows.specs.Operations.{HasOps, Cells, cells}
 use Rattle.rows.specs.Operations.Column.{Last, Start, Link, Taken, Stands}
 use Rattle.job.specs.declared.Operation.{Operation}
 use Rattle.job.specs.Job.{Job}
@@ -213,7 +212,7 @@ lines-are-each c by count (suc n) =
 
 -- the operation that a list names for a step, and what was found in its row
 module _ {ops by : List ℕ} {count reach : ℕ} (w : Within ops by count reach) (s : ℕ) where
-  pub row-there : 1 ≤ s → s ≤ reach → HasRows (at by s) ops × (1 ≤ at by s → HasRows (cells ops Taken (at by s)) ops)
+  pub row-there : 1 ≤ s → s ≤ reach → HasOps (at by s) ops × (1 ≤ at by s → HasOps (cells ops Taken (at by s)) ops)
   row-there low high =
       (omega (arith, w .makers s low high, w .has-ops), λ some. omega (arith, w .has-ops, w .items (at by s) some (w .makers s low high)))
 

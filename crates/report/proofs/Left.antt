@@ -2,8 +2,7 @@
 use mathlib.Core.Path.{_≡_, refl, sym, ap, subst, _∙_}
 use Prim.Native.Nat.{ℕ, _≤_}
 use mathlib.Core.List.{List}
-use Rattle.rows.specs.Nodes.{nexts, marks}
-use Rattle.rows.specs.Rows.{HasRows}
+use Rattle.rows.specs.Nodes.{HasNodes, nexts, marks}
 use Rattle.job.specs.declared.Kind.{Kind}
 use Rattle.job.specs.declared.Kind.the-variants.{Queue, Stack}
 use Rattle.job.specs.Job.{Job}
@@ -35,7 +34,7 @@ module _ (j : Job) (k : ℕ) (head tail top : ℕ) (nodes : List ℕ) (m : memor
   head-within = memory-within .head
 
   -- the walk stays within the rows
-  pub nodes-held : HasRows (j .count) nodes → NodesThere nodes (j .count) (first-node (j .object) nodes head top)
+  pub nodes-held : HasNodes (j .count) nodes → NodesThere nodes (j .count) (first-node (j .object) nodes head top)
   unfolding memory-of
   nodes-held has =
       record { has-nodes = has; within = memory-within .next; first = first-within (j .object) (j .count) head tail top nodes memory-within }

@@ -9,8 +9,7 @@ use lib.ListN.{length}
 use Rattle.basics.specs.Choice.{pick, same}
 use Rattle.basics.specs.Text.{text, decimal}
 use Rattle.basics.proofs.Choice.{test-elim, same-unequal, split}
-use Rattle.rows.specs.Rows.{HasRows}
-use Rattle.rows.specs.Operations.{Cells, cells}
+use Rattle.rows.specs.Operations.{HasOps, Cells, cells}
 use Rattle.rows.specs.Operations.Column.{First, Last, Link, Taken}
 use Rattle.job.specs.Stream.{record-at, stream-length}
 use Rattle.job.specs.Job.{Job, job-of}
@@ -53,7 +52,7 @@ unfolding stream-length record-at job-of
 record-within s o whole h = omega arith
 
 -- an operation of the stream's job
-pub in-stream : (s ops : List ℕ) {count : ℕ} → stream-length s ≤ length s → count ≡ job-of s .count → HasRows count ops → Agrees (job-of s) (job-of s .steps) (cells ops) → (o : ℕ) → 1 ≤ o → o ≤ count → InStream s ops o
+pub in-stream : (s ops : List ℕ) {count : ℕ} → stream-length s ≤ length s → count ≡ job-of s .count → HasOps count ops → Agrees (job-of s) (job-of s .steps) (cells ops) → (o : ℕ) → 1 ≤ o → o ≤ count → InStream s ops o
 in-stream s ops whole all has h o low high =
     let op : IsOperation (job-of s .count) o = record { from-one = low; to-count = omega arith } in
     record {

@@ -6,7 +6,7 @@ use native.Mathlib.Omega.{arith}
 use mathlib.Core.List.{List, _++_}
 use lib.ListN.{length}
 use Rattle.basics.specs.Maps.{at}
-use Rattle.rows.specs.Rows.{HasRows}
+use Rattle.rows.specs.Nodes.{HasNodes}
 use Rattle.rows.specs.Operations.{cells}
 use Rattle.text.specs.Laid.{Wrote}
 use Rattle.job.specs.declared.Heading.{Heading}
@@ -24,7 +24,7 @@ use Rattle.report.proofs.Operations.{item-in-range}
 use Rattle.report.proofs.Left.{head-within, nodes-held, left-held}
 
 -- where the items that are left begin has a row
-pub head-there : {j : Job} {h : Heading} {ops by nodes : List ℕ} {end : Finish} → Leaves j h ops by nodes end → HasRows (end .head) nodes
+pub head-there : {j : Job} {h : Heading} {ops by nodes : List ℕ} {end : Finish} → Leaves j h ops by nodes end → HasNodes (end .head) nodes
 head-there {j} {h} {nodes} {end} l =
     omega (arith, head-within j (h .steps) (end .head) (end .tail) (end .top) nodes (l .memory), ap (λ (x : Heading). x .count) (l .heading), l .has-nodes)
 

@@ -4,8 +4,7 @@ use mathlib.Core.List.{List, [], _++_}
 use lib.ListN.{length}
 use Rattle.basics.specs.Choice.{pick, same}
 use Rattle.basics.specs.Maps.{at}
-use Rattle.rows.specs.Rows.{HasRows}
-use Rattle.rows.specs.Operations.{Cells, cells}
+use Rattle.rows.specs.Operations.{HasOps, Cells, cells}
 use Rattle.rows.specs.Operations.Column.{Last, Start, Link, Taken, Stands}
 use Rattle.job.specs.declared.Operation.{Operation}
 use Rattle.machine.specs.Record.{Recorded}
@@ -37,7 +36,7 @@ found-lines c by count (suc s) = found-lines c by count s ++ line-at c by count 
 
 -- the operations and the items that the lists name have rows
 pub record Within (ops by : List ℕ) (count reach : ℕ) : Type 0 where
-  pub has-ops : HasRows count ops
+  pub has-ops : HasOps count ops
   pub has-steps : reach < length by
   pub makers : (s : ℕ) → 1 ≤ s → s ≤ reach → at by s ≤ count
   pub items : (o : ℕ) → 1 ≤ o → o ≤ count → cells ops Taken o ≤ count

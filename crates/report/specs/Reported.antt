@@ -3,7 +3,8 @@ use mathlib.Core.Path.{_≡_}
 use Prim.Native.Nat.{ℕ, _≤_, _<_}
 use mathlib.Core.List.{List}
 use lib.ListN.{length}
-use Rattle.rows.specs.Rows.{HasRows}
+use Rattle.rows.specs.Operations.{HasOps}
+use Rattle.rows.specs.Nodes.{HasNodes}
 use Rattle.job.specs.declared.Heading.{Heading}
 use Rattle.job.specs.Limits.{field}
 use Rattle.job.specs.Job.{Job, heading-of}
@@ -18,8 +19,8 @@ use Rattle.text.specs.Laid.{laid}
 pub record Leaves (j : Job) (h : Heading) (ops by nodes : List ℕ) (end : Finish) : Type 0 where
   pub heading : h ≡ heading-of j
   pub few : h .count ≤ field .operations
-  pub has-ops : HasRows (h .count) ops
-  pub has-nodes : HasRows (h .count) nodes
+  pub has-ops : HasOps (h .count) ops
+  pub has-nodes : HasNodes (h .count) nodes
   pub has-steps : h .steps < length by
   pub journal : Holds j (h .steps) ops by
   pub memory : memory-of (end .head) (end .tail) (end .top) nodes ≡ state-after j (h .steps) .memory

@@ -16,8 +16,8 @@ ghost use mathlib.Core.Path.{_≡_};
 ghost use Prim.Native.Nat.{_+_, _≤_, _<_};
 ghost use lib.ListN.{length};
 ghost use Rattle.basics.specs.Maps as Maps;
-ghost use Rattle.rows.specs.Rows.{HasRows};
-ghost use Rattle.rows.specs.Operations.{cells};
+ghost use Rattle.rows.specs.Nodes.{HasNodes};
+ghost use Rattle.rows.specs.Operations.{HasOps, cells};
 ghost use Rattle.rows.specs.Operations.Column.{Taken};
 ghost use Rattle.text.specs.Laid.{Wrote};
 ghost use Rattle.job.specs.Limits.{field};
@@ -29,12 +29,12 @@ ghost use Rattle.wording.specs.Report.{operation-lines, record-lines, report};
 ghost use Rattle.report.specs.Found.{found, found-lines, Within};
 ghost use Rattle.report.specs.Reported.{Leaves, Reported};
 
-// The cells of the bounds of takers: a row for each operation.
-const BOUNDS: usize = rows::ROW * (Limits::OPERATIONS + 1);
+// The cells of the bounds of takers: a row for each item.
+const CELLS: usize = lines::BOUNDS * (Limits::OPERATIONS + 1);
 
 // The lines of operations, in number order.
 fn operation_lines(out: &mut [u8], at: usize, stream: &[u8], ops: &[u16], count: u16) -> usize
-    requires { ⌜ (stream-length (now stream) ≤ length (now stream)) × (count ≡ job-of (now stream) .count) × HasRows count (now ops) × Agrees (job-of (now stream)) (job-of (now stream) .steps) (cells (now ops)) ⌝ }
+    requires { ⌜ (stream-length (now stream) ≤ length (now stream)) × (count ≡ job-of (now stream) .count) × HasOps count (now ops) × Agrees (job-of (now stream)) (job-of (now stream) .steps) (cells (now ops)) ⌝ }
     requires { ⌜ at + length (operation-lines (job-of (now stream)) (job-of (now stream) .steps) count) ≤ length (now out) ⌝ }
     ensures { λ r. ⌜ Wrote (now (out .entry)) (now (out .exit)) at r (operation-lines (job-of (now (stream .entry))) (job-of (now (stream .entry)) .steps) count) ⌝ }
 {
@@ -49,30 +49,30 @@ fn operation_lines(out: &mut [u8], at: usize, stream: &[u8], ops: &[u16], count:
 
 // What stands at a step, by the row of the operation that made it: none of an idle step.
 fn found_at(ops: &[u16], s: Step, o: Operation) -> Found
-    requires { ⌜ HasRows (o .0) (now ops) × (1 ≤ o .0 → HasRows (cells (now ops) Taken (o .0)) (now ops)) ⌝ }
+    requires { ⌜ HasOps (o .0) (now ops) × (1 ≤ o .0 → HasOps (cells (now ops) Taken (o .0)) (now ops)) ⌝ }
     ensures { λ r. ⌜ r ≡ found (cells (now (ops .entry))) (s .0) o ⌝ }
 {
     if o.0 == 0 {
         return Found::Nothing;
     }
-    let link = cell(ops, o.0, rows::LINK);
+    let link = cell(ops, rows::OPS, o.0, rows::LINK);
     if link != 0 {
         if link != s.0 {
             return Found::Nothing;
         }
         return Found::Put(o);
     }
-    let item = cell(ops, o.0, rows::TAKEN);
+    let item = cell(ops, rows::OPS, o.0, rows::TAKEN);
     if item != 0 {
-        if cell(ops, item, rows::STANDS) != s.0 {
+        if cell(ops, rows::OPS, item, rows::STANDS) != s.0 {
             return Found::Nothing;
         }
         return Found::Takers(Operation(item));
     }
-    if cell(ops, o.0, rows::LAST) == 0 {
+    if cell(ops, rows::OPS, o.0, rows::LAST) == 0 {
         return Found::Nothing;
     }
-    if cell(ops, o.0, rows::START) != s.0 {
+    if cell(ops, rows::OPS, o.0, rows::START) != s.0 {
         return Found::Nothing;
     }
     Found::Empty(o)
@@ -113,18 +113,18 @@ fn record_lines(
     requires { ⌜ (count ≤ field .operations) × Within (now ops) (now by) count (reach .0) × (at + length (record-lines (found-lines (cells (now ops)) (Maps.at (now by)) count (reach .0))) ≤ length (now out)) ⌝ }
     ensures { λ r. ⌜ Wrote (now (out .entry)) (now (out .exit)) at r (record-lines (found-lines (cells (now (ops .entry))) (Maps.at (now (by .entry))) count (reach .0))) ⌝ }
 {
-    let mut bounds = [0u16; BOUNDS];
+    let mut bounds = [0u16; CELLS];
     bound_takers(&mut bounds, ops, count);
     step_lines(out, at, ops, by, &bounds, count, reach)
 }
 
 // The node from which the items that are left are walked.
 fn first_node(object: Kind, nodes: &[u16], head: u16, top: u16) -> u16
-    requires { ⌜ HasRows head (now nodes) ⌝ }
+    requires { ⌜ HasNodes head (now nodes) ⌝ }
     ensures { λ r. ⌜ r ≡ first-node object (now (nodes .entry)) head top ⌝ }
 {
     match object {
-        Kind::Queue => cell(nodes, head, rows::NEXT),
+        Kind::Queue => cell(nodes, rows::NODES, head, rows::NEXT),
         Kind::Stack => top,
     }
 }

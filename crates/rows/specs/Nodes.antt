@@ -1,13 +1,21 @@
--- The row of a node: its next and its mark. The other cells of a row are free.
+-- The row of a node: its next and its mark.
 use Prim.Native.Nat.{ℕ}
 use mathlib.Core.List.{List}
 use Rattle.basics.specs.Maps.{at}
-use Rattle.rows.specs.Rows.{column}
+use Rattle.rows.specs.Rows.{column, HasRows}
+
+-- how many columns a node's row has
+abbrev pub node-width : ℕ
+node-width = 2
 
 -- the nodes' nexts
 abbrev pub nexts : List ℕ → ℕ → ℕ
-nexts l = column 0 (at l)
+nexts l = column node-width 0 (at l)
 
 -- the nodes' marks
 abbrev pub marks : List ℕ → ℕ → ℕ
-marks l = column 1 (at l)
+marks l = column node-width 1 (at l)
+
+-- a list has the rows of nodes up to node `n`
+abbrev pub HasNodes : ℕ → List ℕ → Type 0
+HasNodes n l = HasRows node-width n l

@@ -1,9 +1,9 @@
--- The row of an operation: six steps or items that a run keeps of it, a column for each. Two cells of a row are free.
+-- The row of an operation: six steps or items that a run keeps of it, a column for each.
 use Prim.Native.Nat.{ℕ}
 use mathlib.Core.List.{List}
 use Rattle.basics.specs.Choice.{pick, same}
 use Rattle.basics.specs.Maps.{at, upd}
-use Rattle.rows.specs.Rows.{column}
+use Rattle.rows.specs.Rows.{column, HasRows}
 
 pub data Column : Type 0 where
   -- an operation's first step
@@ -28,12 +28,20 @@ number Link = 3
 number Taken = 4
 number Stands = 5
 
+-- how many they are
+abbrev pub op-width : ℕ
+op-width = 6
+
+-- a list has the rows of operations up to operation `n`
+abbrev pub HasOps : ℕ → List ℕ → Type 0
+HasOps n l = HasRows op-width n l
+
 -- what some rows hold: a map for each column
 abbrev pub Cells : Type 0
 Cells = Column → ℕ → ℕ
 
 abbrev pub cells : List ℕ → Cells
-cells l f = column (number f) (at l)
+cells l f = column op-width (number f) (at l)
 
 -- the cells after a store in the row of operation `o`
 unfoldable pub stored : Column → ℕ → ℕ → Cells → Cells

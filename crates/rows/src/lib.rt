@@ -1,11 +1,8 @@
-// Rows of cells in one lent list: a row for each operation, or for each node. What a column holds is said where it is used.
+// Rows of cells in one lent list: a row for each operation, or for each node. A row is as wide as the columns that it has.
 ghost use mathlib.Core.Path.{_≡_};
 ghost use Prim.Native.Nat.{_<_};
 ghost use Rattle.basics.specs.Maps.{at, upd};
-ghost use Rattle.rows.specs.Rows.{row-size, place, column, HasRows};
-
-// cells in a row
-pub const ROW: usize = 8;
+ghost use Rattle.rows.specs.Rows.{place, column, HasRows};
 
 // The columns of an operation's row: its first step, its last step, its last T1 or R1, its changing Q3 or P3, the item of its T5 or R3,
 // and where the line of its item's takers stands.
@@ -21,23 +18,29 @@ pub const TAKEN: usize = 4;
 
 pub const STANDS: usize = 5;
 
+// how many they are
+pub const OPS: usize = 6;
+
 // The columns of a node's row: its next and its mark.
 pub const NEXT: usize = 0;
 
 pub const MARK: usize = 1;
 
-// Cell `f` of row `i`.
-pub fn cell(rows: &[u16], i: u16, f: usize) -> u16
-    requires { ⌜ (f < row-size) × HasRows i (now rows) ⌝ }
-    ensures { λ r. ⌜ r ≡ column f (at (now (rows .entry))) i ⌝ }
+// how many they are
+pub const NODES: usize = 2;
+
+// Cell `f` of row `i`, in rows of so many cells.
+pub fn cell(rows: &[u16], width: usize, i: u16, f: usize) -> u16
+    requires { ⌜ (f < width) × HasRows width i (now rows) ⌝ }
+    ensures { λ r. ⌜ r ≡ column width f (at (now (rows .entry))) i ⌝ }
 {
-    rows[ROW * (i as usize) + f]
+    rows[width * (i as usize) + f]
 }
 
 // Stores a value in cell `f` of row `i`.
-pub fn store(rows: &mut [u16], i: u16, f: usize, v: u16)
-    requires { ⌜ (f < row-size) × HasRows i (now rows) ⌝ }
-    ensures { λ _. ⌜ at (now (rows .exit)) ≡ upd (at (now (rows .entry))) (place i f) v ⌝ }
+pub fn store(rows: &mut [u16], width: usize, i: u16, f: usize, v: u16)
+    requires { ⌜ (f < width) × HasRows width i (now rows) ⌝ }
+    ensures { λ _. ⌜ at (now (rows .exit)) ≡ upd (at (now (rows .entry))) (place width i f) v ⌝ }
 {
-    rows[ROW * (i as usize) + f] = v;
+    rows[width * (i as usize) + f] = v;
 }

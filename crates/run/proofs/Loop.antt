@@ -9,6 +9,7 @@ use lib.ListN.{length, getD, set}
 use Rattle.basics.proofs.Choice.{lt-less, le-less}
 use Rattle.rows.specs.Rows as Rows
 use Rattle.rows.specs.Rows.{column}
+use Rattle.rows.specs.Nodes.{node-width}
 use Rattle.rows.specs.Operations.{cells}
 use Rattle.rows.proofs.Operations.{by-column}
 use Rattle.job.specs.declared.Heading.{Heading}
@@ -55,7 +56,7 @@ pub ran-at-start : (j : Job) {head tail top : ℕ} {nodes ops by : List ℕ} →
 unfolding state-after fresh-state fresh-memory memory-of column
 ran-at-start j {ops = ops} h t p b =
     record {
-      memory = λ i. record { head = h i; tail = t i; top = p i; next = λ x. b .no-node (Rows.place x 0) i; mark = λ x. b .no-node (Rows.place x 1) i };
+      memory = λ i. record { head = h i; tail = t i; top = p i; next = λ x. b .no-node (Rows.place node-width x 0) i; mark = λ x. b .no-node (Rows.place node-width x 1) i };
       journal =
           record {
             agrees =

@@ -6,7 +6,8 @@ use lib.ListN.{length, getD}
 use mathlib.Core.Bool.{false}
 use Rattle.basics.specs.Choice.{pick, less}
 use Rattle.basics.specs.Maps.{at}
-use Rattle.rows.specs.Rows.{HasRows}
+use Rattle.rows.specs.Operations.{HasOps}
+use Rattle.rows.specs.Nodes.{HasNodes}
 use Rattle.job.specs.declared.Heading.{Heading}
 use Rattle.job.specs.Limits.{field}
 use Rattle.job.specs.Job.{Job, job-of, heading-of}
@@ -50,8 +51,8 @@ pub record Ran (j : Job) (k head tail top : ℕ) (nodes ops by : List ℕ) : Typ
 
 -- a row for every node and every operation, and a cell for every step
 pub record Room (nodes ops by : List ℕ) : Type 0 where
-  pub of-nodes : HasRows (field .operations) nodes
-  pub of-ops : HasRows (field .operations) ops
+  pub of-nodes : HasNodes (field .operations) nodes
+  pub of-ops : HasOps (field .operations) ops
   pub of-steps : field .steps < length by
 
 -- every cell is 0: "A fresh queue has Head and Tail at node 0 and every next none; a fresh stack has Top none and every mark clear."

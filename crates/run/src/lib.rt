@@ -41,8 +41,10 @@ pub struct Object {
 }
 
 impl Object {
-    // A row for node 0 and for each node that an operation may link; operations have as many rows.
-    pub const ROWS: usize = rows::ROW * (Limits::OPERATIONS + 1);
+    // A row for node 0 and for each node that an operation may link, and as many rows of operations.
+    pub const NODES: usize = rows::NODES * (Limits::OPERATIONS + 1);
+
+    pub const OPS: usize = rows::OPS * (Limits::OPERATIONS + 1);
 
     // A cell for each step; step 0 is none.
     pub const STEPS: usize = Limits::STEPS + 1;

@@ -2,7 +2,7 @@
 use mathlib.Core.Path.{_≡_}
 use Prim.Native.Nat.{ℕ}
 use mathlib.Core.List.{List}
-use Rattle.rows.specs.Rows.{HasRows}
+use Rattle.rows.specs.Nodes.{HasNodes}
 use Rattle.machine.specs.declared.Access.{Access}
 use Rattle.machine.specs.declared.Event.{Event}
 use Rattle.machine.specs.declared.Place.{Place}
@@ -15,9 +15,9 @@ use Rattle.step.specs.declared.Stepped.{Stepped}
 
 -- the own node, h and t have rows
 pub record Inside (own h t : ℕ) (nodes : List ℕ) : Type 0 where
-  pub own-row : HasRows own nodes
-  pub h-row : HasRows h nodes
-  pub t-row : HasRows t nodes
+  pub own-row : HasNodes own nodes
+  pub h-row : HasNodes h nodes
+  pub t-row : HasNodes t nodes
 
 -- what access `a` of operation `own` is for the record
 unfoldable pub heard : Access → ℕ → Scalars → List ℕ → Event

@@ -1,7 +1,7 @@
 -- `journal::note` meets its contract: by the event, from what its store did. Assumes nothing.
 use mathlib.Core.Path.{subst}
 use Rattle.machine.specs.Journal.{item-of}
-use Rattle.rows.specs.Rows.{HasRows}
+use Rattle.rows.specs.Operations.{HasOps}
 use Rattle.rows.specs.Operations.Column.{Start, Link, Taken}
 use Rattle.rows.proofs.Operations.{cells-stored}
 use Rattle.journal.specs.Stored.{noted}
@@ -13,13 +13,13 @@ note-move-requires : tie.Need-note-move-requires
 unfolding item-of
 note-move-requires c κs =
     let start = c .before .before .before .before .before in
-    (start .pre .own-row, subst (λ e. HasRows (item-of e) (start .args .ops .now)) (c .before .before .event .given .1) (start .pre .item-row))
+    (start .pre .own-row, subst (λ e. HasOps (item-of e) (start .args .ops .now)) (c .before .before .event .given .1) (start .pre .item-row))
 
 note-raise-requires : tie.Need-note-raise-requires
 unfolding item-of
 note-raise-requires c κs =
     let start = c .before .before .before .before .before .before .before in
-    (start .pre .own-row, subst (λ e. HasRows (item-of e) (start .args .ops .now)) (c .before .before .before .before .event3 .given .1) (start .pre .item-row))
+    (start .pre .own-row, subst (λ e. HasOps (item-of e) (start .args .ops .now)) (c .before .before .before .before .event3 .given .1) (start .pre .item-row))
 
 returns : tie.Need-returns
 unfolding noted
