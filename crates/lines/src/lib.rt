@@ -152,9 +152,21 @@ pub fn bound_takers(bounds: &mut [u16], ops: &[u16], count: u16)
     let mut o: u16 = 0;
     while o < count {
         let rest = count - o;
-        store(bounds, BOUNDS, cell(ops, rows::OPS, rest, rows::TAKEN), SKIP, rest - 1);
+        store(
+            bounds,
+            BOUNDS,
+            cell(ops, rows::OPS, rest, rows::TAKEN),
+            SKIP,
+            rest - 1,
+        );
         o += 1;
-        store(bounds, BOUNDS, cell(ops, rows::OPS, o, rows::TAKEN), BEYOND, count - o);
+        store(
+            bounds,
+            BOUNDS,
+            cell(ops, rows::OPS, o, rows::TAKEN),
+            BEYOND,
+            count - o,
+        );
     }
 }
 
