@@ -9,7 +9,7 @@ use native.Mathlib.Omega.{arith}
 use Rattle.basics.specs.Choice.{pick, same}
 use Rattle.basics.proofs.Choice.{pick-then, pick-else, equal-same, unequal-same, split}
 use Rattle.job.specs.declared.Kind.{Kind}
-use Rattle.job.specs.declared.Kind.the-variants.{Queue, Stack}
+use Rattle.job.specs.declared.Kind.the-variants.{Queue, Stack, TwoWay}
 use Rattle.job.specs.declared.Lookup.{Lookup}
 use Rattle.job.specs.declared.Lookup.the-variants.{Found, Missing}
 use Rattle.job.specs.Kind.{kind-number, kinds, look-up, kind-of, is-missing, kind-found}
@@ -21,6 +21,7 @@ pub found-by-number : (k : Kind) → kind-of (kind-number k) ≡ Found k
 unfolding kind-of kinds look-up kind-number pick same
 found-by-number Queue = refl
 found-by-number Stack = refl
+found-by-number TwoWay = refl
 
 pub numbers-differ : (k l : Kind) → kind-number k ≡ kind-number l → k ≡ l
 numbers-differ k l e =

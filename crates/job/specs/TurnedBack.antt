@@ -54,12 +54,14 @@ refusals =
     -- "same block, next | 4 | its number is not its position"
     ∷ record { file = holding 1 good; number = 4 }
     -- both 4 and 5
-    ∷ record { file = holding 1 (header 3 1 1 0 ++ put 0 500); number = 4 }
+    ∷ record { file = holding 1 (header 4 1 1 0 ++ put 0 500); number = 4 }
     -- "header | 5, 6, 7, 8 | kind, P, N, S out of range, in that order": kind
     ∷ record { file = holding 0 (header 0 1 1 0 ++ put 0 500); number = 5 }
-    ∷ record { file = holding 0 (header 3 1 1 0 ++ put 0 500); number = 5 }
+    ∷ record { file = holding 0 (header 4 1 1 0 ++ put 0 500); number = 5 }
+    -- document 02, request 3: "Number 5 now admits kind 3."
+    ∷ record { file = holding 0 (header 3 1 1 0 ++ put 0 500); number = 0 }
     -- both 5 and 6
-    ∷ record { file = holding 0 (header 3 9 1 0 ++ put 0 500); number = 5 }
+    ∷ record { file = holding 0 (header 4 9 1 0 ++ put 0 500); number = 5 }
     -- P
     ∷ record { file = holding 0 (header 1 0 1 0 ++ put 0 500); number = 6 }
     ∷ record { file = holding 0 (header 1 9 1 0 ++ put 0 500); number = 6 }

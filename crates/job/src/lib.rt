@@ -23,6 +23,8 @@ pub struct Process(pub u8);
 pub enum Kind {
     Queue,
     Stack,
+    // the two-way linked stack
+    TwoWay,
 }
 
 // What is found under a number: the kind that has it, or that none has.
@@ -103,13 +105,14 @@ impl Reply {
     }
 }
 
-// Document 01: "kind (1 queue, 2 stack)".
+// Document 01: "kind (1 queue, 2 stack)"; document 02: "it becomes kind 3".
 fn kind_of(number: u8) -> Lookup
     ensures { λ r. ⌜ r ≡ kind-of number ⌝ }
 {
     match number {
         1 => Lookup::Found(Kind::Queue),
         2 => Lookup::Found(Kind::Stack),
+        3 => Lookup::Found(Kind::TwoWay),
         _ => Lookup::Missing,
     }
 }

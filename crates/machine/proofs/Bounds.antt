@@ -11,10 +11,10 @@ use Rattle.basics.proofs.Maps.{upd-elim}
 use Rattle.job.specs.Job.{Job}
 use Rattle.machine.specs.declared.Place.{Place}
 use Rattle.machine.specs.declared.Access.{Access}
-use Rattle.machine.specs.declared.Access.the-variants.{ReadHead, ReadTail, ReadNextOfH, ReadNextOfT, Link, TailToOwn, TailToN, HeadToN, ReadTopToPut, ReadTopToTake, ReadMark, Push, RaiseMark, TopToNext}
+use Rattle.machine.specs.declared.Access.the-variants.{ReadHead, ReadTail, ReadNextOfH, ReadNextOfT, Link, TailToOwn, TailToN, HeadToN, ReadTop, ReadTopToTake, ReadMark, Push, RaiseMark, TopToNext, ReadUpper, ReadUpperToTake, LinkAbove, TopToOwn, TopToN, Cut, ClearFlag}
 use Rattle.machine.specs.declared.Outcome.{Outcome}
 use Rattle.machine.specs.declared.Outcome.the-variants.{Yes, No, Bare}
-use Rattle.machine.specs.Memory.{Memory, fresh-memory, set-from-to, with-head, with-tail, with-top, with-next, with-mark}
+use Rattle.machine.specs.Memory.{Memory, fresh-memory, set-from-to, with-head, with-tail, with-top, with-next, with-mark, with-upper}
 use Rattle.machine.specs.Table.{row-of, ended}
 use Rattle.machine.specs.Access.{Registers, Reached, have-read, have-set, access}
 use Rattle.machine.specs.Run.{State, operation-after, before, fresh-state, reach, registers, reached, row-after, place-after, resting, step, state-after}
@@ -29,6 +29,7 @@ pub record MemoryWithin (N : ℕ) (m : Memory) : Type 0 where
   pub tail : m .tail ≤ N
   pub top : m .top ≤ N
   pub next : (i : ℕ) → m .next i ≤ N
+  pub upper : (i : ℕ) → m .upper i ≤ N
 
 -- every register holds at most N
 pub record RegistersWithin (N : ℕ) (r : Registers) : Type 0 where
@@ -51,21 +52,28 @@ map-within N f i v stores old new = pick-elim (λ g. (x : ℕ) → g x ≤ N) st
 
 -- every access keeps them so
 access-within : (N : ℕ) (a : Access) {own : ℕ} {m : Memory} {r : Registers} → own ≤ N → MemoryWithin N m → RegistersWithin N r → ReachedWithin N (access a own m r .memory) (access a own m r .registers)
-unfolding access have-read have-set with-head with-tail with-top with-next with-mark
+unfolding access have-read have-set with-head with-tail with-top with-next with-mark with-upper
 access-within N ReadHead own m r = record { memory = m; own = record { h = m .head; t = r .t; n = r .n } }
 access-within N ReadTail own m r = record { memory = m; own = record { h = r .h; t = m .tail; n = r .n } }
 access-within N ReadNextOfH own m r = record { memory = m; own = record { h = r .h; t = r .t; n = m .next _ } }
 access-within N ReadNextOfT own m r = record { memory = m; own = record { h = r .h; t = r .t; n = m .next _ } }
-access-within N Link own m r = record { memory = record { head = m .head; tail = m .tail; top = m .top; next = map-within N _ _ _ _ (m .next) own }; own = r }
-access-within N TailToOwn own m r = record { memory = record { head = m .head; tail = set-within N _ (m .tail) own; top = m .top; next = m .next }; own = r }
-access-within N TailToN own m r = record { memory = record { head = m .head; tail = set-within N _ (m .tail) (r .n); top = m .top; next = m .next }; own = r }
-access-within N HeadToN own m r = record { memory = record { head = set-within N _ (m .head) (r .n); tail = m .tail; top = m .top; next = m .next }; own = r }
-access-within N ReadTopToPut own m r = record { memory = m; own = record { h = r .h; t = m .top; n = r .n } }
+access-within N Link own m r = record { memory = record { head = m .head; tail = m .tail; top = m .top; next = map-within N _ _ _ _ (m .next) own; upper = m .upper }; own = r }
+access-within N TailToOwn own m r = record { memory = record { head = m .head; tail = set-within N _ (m .tail) own; top = m .top; next = m .next; upper = m .upper }; own = r }
+access-within N TailToN own m r = record { memory = record { head = m .head; tail = set-within N _ (m .tail) (r .n); top = m .top; next = m .next; upper = m .upper }; own = r }
+access-within N HeadToN own m r = record { memory = record { head = set-within N _ (m .head) (r .n); tail = m .tail; top = m .top; next = m .next; upper = m .upper }; own = r }
+access-within N ReadTop own m r = record { memory = m; own = record { h = r .h; t = m .top; n = r .n } }
 access-within N ReadTopToTake own m r = record { memory = m; own = record { h = r .h; t = m .top; n = r .n } }
 access-within N ReadMark own m r = record { memory = m; own = r }
-access-within N Push own m r = record { memory = record { head = m .head; tail = m .tail; top = set-within N _ (m .top) own; next = map-within N _ _ _ _ (m .next) (r .t) }; own = r }
-access-within N RaiseMark own m r = record { memory = record { head = m .head; tail = m .tail; top = m .top; next = m .next }; own = r }
-access-within N TopToNext own m r = record { memory = record { head = m .head; tail = m .tail; top = set-within N _ (m .top) (m .next _); next = m .next }; own = r }
+access-within N Push own m r = record { memory = record { head = m .head; tail = m .tail; top = set-within N _ (m .top) own; next = map-within N _ _ _ _ (m .next) (r .t); upper = m .upper }; own = r }
+access-within N RaiseMark own m r = record { memory = record { head = m .head; tail = m .tail; top = m .top; next = m .next; upper = m .upper }; own = r }
+access-within N TopToNext own m r = record { memory = record { head = m .head; tail = m .tail; top = set-within N _ (m .top) (m .next _); next = m .next; upper = m .upper }; own = r }
+access-within N ReadUpper own m r = record { memory = m; own = record { h = r .h; t = r .t; n = m .upper _ } }
+access-within N ReadUpperToTake own m r = record { memory = m; own = record { h = r .h; t = r .t; n = m .upper _ } }
+access-within N LinkAbove own m r = record { memory = record { head = m .head; tail = m .tail; top = m .top; next = map-within N _ _ _ _ (m .next) (r .t); upper = map-within N _ _ _ _ (m .upper) own }; own = r }
+access-within N TopToOwn own m r = record { memory = record { head = m .head; tail = m .tail; top = set-within N _ (m .top) own; next = m .next; upper = m .upper }; own = r }
+access-within N TopToN own m r = record { memory = record { head = m .head; tail = m .tail; top = set-within N _ (m .top) (r .n); next = m .next; upper = m .upper }; own = r }
+access-within N Cut own m r = record { memory = record { head = m .head; tail = m .tail; top = m .top; next = m .next; upper = map-within N _ _ _ _ (m .upper) zero-le }; own = r }
+access-within N ClearFlag own m r = record { memory = record { head = m .head; tail = m .tail; top = m .top; next = m .next; upper = m .upper }; own = r }
 
 -- the item of an event is one of the registers, or 0
 pub item-within : (N : ℕ) (r : Registers) → RegistersWithin N r → (a : Access) (o : Outcome) → item-of (event-of a o r) ≤ N
@@ -82,7 +90,7 @@ item-within N r w TailToN o = zero-le
 item-within N r w HeadToN Yes = w .n
 item-within N r w HeadToN No = w .n
 item-within N r w HeadToN Bare = zero-le
-item-within N r w ReadTopToPut o = zero-le
+item-within N r w ReadTop o = zero-le
 item-within N r w ReadTopToTake o = zero-le
 item-within N r w ReadMark o = zero-le
 item-within N r w Push Yes = zero-le
@@ -90,6 +98,17 @@ item-within N r w Push No = zero-le
 item-within N r w Push Bare = zero-le
 item-within N r w RaiseMark o = w .t
 item-within N r w TopToNext o = zero-le
+item-within N r w ReadUpper o = zero-le
+item-within N r w ReadUpperToTake o = zero-le
+item-within N r w LinkAbove Yes = zero-le
+item-within N r w LinkAbove No = zero-le
+item-within N r w LinkAbove Bare = zero-le
+item-within N r w TopToOwn o = zero-le
+item-within N r w TopToN o = zero-le
+item-within N r w Cut o = zero-le
+item-within N r w ClearFlag Yes = w .t
+item-within N r w ClearFlag No = zero-le
+item-within N r w ClearFlag Bare = zero-le
 
 -- a place: its operation, its registers, and a row that is no end
 pub record PlaceWithin (N : ℕ) (p : Place) : Type 0 where
@@ -155,7 +174,7 @@ module _ (j : Job) where
   unfolding state-after fresh-state fresh-memory
   within zero =
       record {
-        memory = record { head = omega arith; tail = omega arith; top = omega arith; next = λ i. omega arith };
+        memory = record { head = omega arith; tail = omega arith; top = omega arith; next = λ i. omega arith; upper = λ i. omega arith };
         place = λ p. before-within p 0 (omega arith);
       }
   within (suc k) = step-within (j .entry (suc k)) (state-after j k) (within k)

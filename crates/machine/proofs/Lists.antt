@@ -8,7 +8,7 @@ use mathlib.Core.List.List·Memᴰ.{List·Memᴰ·head, List·Memᴰ·tail}
 use native.Mathlib.Omega.{arith}
 use lib.ListN.{length}
 use Rattle.basics.specs.Choice.{pick, same}
-use Rattle.basics.proofs.Choice.{both, pick-true, pick-false, pick-then, pick-elim, same-refl, same-equal, equal-same, unequal-same, split}
+use Rattle.basics.proofs.Choice.{both, pick-true, pick-false, pick-then, pick-else, pick-elim, same-refl, same-equal, equal-same, unequal-same, split}
 use Rattle.machine.specs.Effects.{numbers, sift}
 use Rattle.machine.specs.Explained.{occurrences}
 
@@ -20,6 +20,15 @@ sift-in f {x} (List·Memᴰ·head {x = y} {xs = l} e) t =
 sift-in f {x} (List·Memᴰ·tail {x = y} {xs = l} m) t =
     let rest : List·Memᴰ x (sift f l) = sift-in f m t in
     pick-elim (List·Memᴰ x) (f y) (y ∷ sift f l) (sift f l) (λ p. List·Memᴰ·tail rest) (λ p. rest)
+
+-- a first member stays, or goes
+pub sift-keeps : (f : ℕ → Bool) (x : ℕ) (l : List ℕ) → f x ≡ true → sift f (x ∷ l) ≡ x ∷ sift f l
+unfolding sift
+sift-keeps f x l t = pick-then _ _ t
+
+pub sift-drops : (f : ℕ → Bool) (x : ℕ) (l : List ℕ) → f x ≡ false → sift f (x ∷ l) ≡ sift f l
+unfolding sift
+sift-drops f x l t = pick-else _ _ t
 
 -- what a sift keeps was a member and meets the test
 pub sift-out : (f : ℕ → Bool) (l : List ℕ) {x : ℕ} → List·Memᴰ x (sift f l) → List·Memᴰ x l × (f x ≡ true)
@@ -90,6 +99,12 @@ numbers-out (suc n) {x} m =
 pub data Distinct : List ℕ → Type 0 where
   none : Distinct []
   more : {x : ℕ} {l : List ℕ} → (List·Memᴰ x l → ⊥) → Distinct l → Distinct (x ∷ l)
+
+pub distinct-first : {x : ℕ} {l : List ℕ} → Distinct (x ∷ l) → List·Memᴰ x l → ⊥
+distinct-first (more fresh d) = fresh
+
+pub distinct-rest : {x : ℕ} {l : List ℕ} → Distinct (x ∷ l) → Distinct l
+distinct-rest (more fresh d) = d
 
 distinct-append : {a b : List ℕ} → Distinct a → Distinct b → ((x : ℕ) → List·Memᴰ x a → List·Memᴰ x b → ⊥) → Distinct (a ++ b)
 distinct-append none d apart = d

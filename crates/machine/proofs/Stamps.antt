@@ -46,7 +46,7 @@ module _ (log : ℕ → Note) (k o : ℕ) where
   unfolding first
   first-new e z = earliest-new (made log o) k z (made-own e)
 
-  -- the changing Q3 or P3
+  -- the changing Q3, P3 or V4
   pub link-other : log (suc k) .by ≢ o → link log (suc k) o ≡ link log k o
   unfolding link links own-step
   link-other n = earliest-kept (links log o) k (own-other (λ x. is-linked (x .event)) n)
@@ -59,7 +59,7 @@ module _ (log : ℕ → Note) (k o : ℕ) where
   unfolding link links own-step is-linked
   link-new a e z = earliest-new (links log o) k z (own-new (λ x. is-linked (x .event)) a (ap is-linked e))
 
-  -- the last T1 or R1
+  -- the last T1, R1 or W2
   pub start-other : log (suc k) .by ≢ o → start log (suc k) o ≡ start log k o
   unfolding start begins-round own-step
   start-other n = latest-kept (begins-round log o) k (own-other (λ x. is-round (x .event)) n)
@@ -72,7 +72,7 @@ module _ (log : ℕ → Note) (k o : ℕ) where
   unfolding start begins-round own-step is-round
   start-new a e = latest-new (begins-round log o) k (own-new (λ x. is-round (x .event)) a (ap is-round e))
 
-  -- the T5 or R3
+  -- the T5, R3 or W4
   pub join-other : log (suc k) .by ≢ o → join log (suc k) o ≡ join log k o
   unfolding join joins own-step
   join-other n = earliest-kept (joins log o) k (own-other (λ x. not (same (item-of (x .event)) 0)) n)

@@ -2,3 +2,4 @@
 pub mod Locals
 pub mod Queue
 pub mod Stack
+pub mod TwoWay

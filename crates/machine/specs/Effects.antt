@@ -6,7 +6,7 @@ use mathlib.Core.Bool.{Bool, true, false, not, _&&_, _||_}
 use mathlib.Core.List.{List, [], _∷_, _++_}
 use Rattle.basics.specs.Choice.{pick, same}
 use Rattle.job.specs.declared.Kind.{Kind}
-use Rattle.job.specs.declared.Kind.the-variants.{Queue, Stack}
+use Rattle.job.specs.declared.Kind.the-variants.{Queue, Stack, TwoWay}
 use Rattle.machine.specs.Multiplicity.{Line}
 use Rattle.machine.specs.Multiplicity.Line.{put, takes, empty}
 use Rattle.machine.specs.Notes.{Answer, Note}
@@ -27,11 +27,11 @@ unfoldable pub largest : (ℕ → ℕ) → List ℕ → ℕ
 largest f [] = 0
 largest f (x ∷ l) = max (f x) (largest f l)
 
--- "Members ran T5 for n." "Members ran R3 on t, ended or not." "An item's takers are the members of its line", ascending
+-- "Members ran T5 for n." "Members ran R3 on t, ended or not." "members passed W4 on t, ended or not" "An item's takers are the members of its line", ascending
 unfoldable pub takers : (ℕ → Note) → ℕ → ℕ → ℕ → List ℕ
 takers log count k item = sift (λ o. same (taken log k o) item) (numbers count)
 
--- the first of k steps at which a T5 moved Head to an item
+-- the first of k steps at which a T5 moved Head to an item, or a W4 cleared its flag
 unfoldable pub first-move : (ℕ → Note) → ℕ → ℕ → ℕ
 first-move log k item = earliest (λ s. same (moved-to (log s .event)) item) k
 
@@ -44,10 +44,11 @@ pub data Rule : Type 0 where
   by-move by-round : Rule
 
 -- "Queue takes of item n: one line, at the first T5 that moved Head to n." "Stack takes of item t: one line. […] The line stands at the
--- latest among the members' last R1 steps, not at R3."
+-- latest among the members' last R1 steps, not at R3." Document 02, request 3: "for takers at the first W4 that cleared the flag"
 abbrev pub rule : Kind → Rule
 rule Queue = by-move
 rule Stack = by-round
+rule TwoWay = by-move
 
 -- the step at which it stands, by the rule
 abbrev pub stands-by : Rule → (ℕ → Note) → ℕ → ℕ → ℕ → ℕ
@@ -69,8 +70,8 @@ is-empty Answer.done = false
 is-empty (Answer.item n) = false
 is-empty Answer.empty = true
 
--- the effect of operation o in k steps. "Put: its changing Q3 or P3." "Empty: its last T1, or the R1 that read none." A take: the line of
--- its item.
+-- the effect of operation o in k steps. "Put: its changing Q3 or P3." "Empty: its last T1, or the R1 that read none." "Effects
+-- stand at the changing V4, at W2 for empty". A take: the line of its item.
 unfoldable pub effect : Kind → (ℕ → Note) → ℕ → ℕ → ℕ → Effect
 effect kind log count k o =
     let of-take : Effect = Effect.stands (takes-at kind log count k (taken log k o)) (takes (taken log k o) (takers log count k (taken log k o))) in
@@ -83,6 +84,7 @@ effect kind log count k o =
 unfoldable pub is-stack : Kind → Bool
 is-stack Queue = false
 is-stack Stack = true
+is-stack TwoWay = true
 
 unfoldable pub took-effect : Kind → (ℕ → Note) → ℕ → ℕ → Bool
 took-effect kind log k o = not (same (link log k o) 0) || is-stack kind && not (same (join log k o) 0)

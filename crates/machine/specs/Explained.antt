@@ -9,13 +9,12 @@ use mathlib.Core.List.{List, [], _∷_, List·Memᴰ}
 use mathlib.Core.Option.{some}
 use lib.ListN.{length}
 use Rattle.basics.specs.Choice.{pick, same}
-use Rattle.job.specs.declared.Kind.the-variants.{Stack}
 use Rattle.job.specs.Job.{Job}
 use Rattle.machine.specs.Multiplicity.{Line, play}
 use Rattle.machine.specs.Multiplicity.Line.{put, takes, empty}
 use Rattle.machine.specs.Notes.{Answer, note}
 use Rattle.machine.specs.Journal.{first, last, answer, link, taken}
-use Rattle.machine.specs.Effects.{takers, latest-start, took-effect, Precedes, Overlap}
+use Rattle.machine.specs.Effects.{takers, takes-at, is-stack, took-effect, Precedes, Overlap}
 use Rattle.machine.specs.Record.{Recorded, the-record, lines-of}
 use Rattle.machine.specs.Left.{left}
 
@@ -58,10 +57,10 @@ pub record Answered (j : Job) (k o : ℕ) : Type 0 where
   pub to-last : place .step ≤ last (note j) k o
 
 -- "One that has not ended took effect exactly if it is a put whose changing step above was made, or a stack take that is a member above":
--- it is in the record as the put of its item, at that step, or among the takes of the item on which it ran R3, where their line stands
+-- it is in the record as the put of its item, at that step, or among the takes of the item on which it ran R3 or passed W4, where their line stands
 pub data OpenLine (j : Job) (k o : ℕ) : Recorded → Type 0 where
   its-put : j .is-put o ≡ true → link (note j) k o ≢ 0 → OpenLine j k o (record { step = link (note j) k o; line = put o })
-  its-takes : j .is-put o ≡ false → j .object ≡ Stack → taken (note j) k o ≢ 0 → List·Memᴰ o (takers (note j) (j .count) k (taken (note j) k o)) → OpenLine j k o (record { step = latest-start (note j) (j .count) k (taken (note j) k o); line = takes (taken (note j) k o) (takers (note j) (j .count) k (taken (note j) k o)) })
+  its-takes : j .is-put o ≡ false → is-stack (j .object) ≡ true → taken (note j) k o ≢ 0 → List·Memᴰ o (takers (note j) (j .count) k (taken (note j) k o)) → OpenLine j k o (record { step = takes-at (j .object) (note j) (j .count) k (taken (note j) k o); line = takes (taken (note j) k o) (takers (note j) (j .count) k (taken (note j) k o)) })
 
 -- "An unanswered one is in it once exactly when it took effect […] and never before its first step."
 pub record InEffect (j : Job) (k o : ℕ) : Type 0 where

@@ -8,7 +8,7 @@ use Rattle.machine.specs.declared.Event.{Event}
 use Rattle.machine.specs.declared.Event.the-variants.{Quiet, Round, Linked, Moved, Late, Raised}
 use Rattle.machine.specs.Notes.{Answer, Note, is-answer}
 
--- does a take begin a round: T1 or R1?
+-- does a take begin a round: T1, R1 or W2?
 unfoldable pub is-round : Event → Bool
 is-round Quiet = false
 is-round Round = true
@@ -17,7 +17,7 @@ is-round (Moved n) = false
 is-round (Late n) = false
 is-round (Raised t) = false
 
--- is it a changing Q3 or P3?
+-- is it a changing Q3, P3 or V4?
 unfoldable pub is-linked : Event → Bool
 is-linked Quiet = false
 is-linked Round = false
@@ -26,7 +26,7 @@ is-linked (Moved n) = false
 is-linked (Late n) = false
 is-linked (Raised t) = false
 
--- the item of a T5 or an R3, 0 for every other step
+-- the item of a T5, of an R3 or of a W4 that found no upper, 0 for every other step
 unfoldable pub item-of : Event → ℕ
 item-of Quiet = 0
 item-of Round = 0
@@ -35,7 +35,7 @@ item-of (Moved n) = n
 item-of (Late n) = n
 item-of (Raised t) = t
 
--- the item to which a T5 moved Head, 0 for every other step
+-- the item to which a T5 moved Head or whose flag a W4 cleared, 0 for every other step
 unfoldable pub moved-to : Event → ℕ
 moved-to Quiet = 0
 moved-to Round = 0
@@ -70,7 +70,7 @@ begins-round log o k = made log o k && is-round (log k .event)
 unfoldable pub links : (ℕ → Note) → ℕ → ℕ → Bool
 links log o k = made log o k && is-linked (log k .event)
 
--- did operation o run T5 or R3 at step k?
+-- did operation o run T5 or R3, or pass W4, at step k?
 unfoldable pub joins : (ℕ → Note) → ℕ → ℕ → Bool
 joins log o k = made log o k && not (same (item-of (log k .event)) 0)
 
@@ -90,18 +90,18 @@ last log k o = earliest (ends log o) k
 unfoldable pub answer : (ℕ → Note) → ℕ → ℕ → Answer
 answer log k o = log (last log k o) .answer
 
--- the last T1 or R1 of operation o among the first k steps, 0 if there is none
+-- the last T1, R1 or W2 of operation o among the first k steps, 0 if there is none
 unfoldable pub start : (ℕ → Note) → ℕ → ℕ → ℕ
 start log k o = latest (begins-round log o) k
 
--- the changing Q3 or P3 of operation o among the first k steps, 0 if there is none
+-- the changing Q3, P3 or V4 of operation o among the first k steps, 0 if there is none
 unfoldable pub link : (ℕ → Note) → ℕ → ℕ → ℕ
 link log k o = earliest (links log o) k
 
--- the T5 or R3 of operation o among the first k steps, 0 if there is none
+-- the T5 or R3 of operation o, or the W4 that it passed, among the first k steps, 0 if there is none
 unfoldable pub join : (ℕ → Note) → ℕ → ℕ → ℕ
 join log k o = earliest (joins log o) k
 
--- the item for which operation o ran T5 or R3, 0 if it did not
+-- the item for which operation o ran T5 or R3 or passed W4, 0 if it did not
 unfoldable pub taken : (ℕ → Note) → ℕ → ℕ → ℕ
 taken log k o = item-of (log (join log k o) .event)

@@ -6,7 +6,7 @@ use Rattle.basics.specs.Choice.{pick}
 use Rattle.job.specs.Job.{Job}
 use Rattle.machine.specs.declared.Row.{Row}
 use Rattle.machine.specs.declared.Access.{Access}
-use Rattle.machine.specs.declared.Access.the-variants.{ReadHead, ReadTail, ReadNextOfH, ReadNextOfT, Link, TailToOwn, TailToN, HeadToN, ReadTopToPut, ReadTopToTake, ReadMark, Push, RaiseMark, TopToNext}
+use Rattle.machine.specs.declared.Access.the-variants.{ReadHead, ReadTail, ReadNextOfH, ReadNextOfT, Link, TailToOwn, TailToN, HeadToN, ReadTop, ReadTopToTake, ReadMark, Push, RaiseMark, TopToNext, ReadUpper, ReadUpperToTake, LinkAbove, TopToOwn, TopToN, Cut, ClearFlag}
 use Rattle.machine.specs.declared.Outcome.{Outcome}
 use Rattle.machine.specs.declared.Outcome.the-variants.{Yes, No, Bare}
 use Rattle.machine.specs.declared.Event.{Event}
@@ -42,7 +42,7 @@ is-answer (item n) = true
 is-answer empty = true
 
 -- what an access was for the record. T1 alone reads Head and R1 alone reads Top to take; Q3 alone links and P3 alone pushes; T5
--- alone sets Head; R3 alone raises a mark.
+-- alone sets Head; R3 alone raises a mark. W2 alone reads an upper to take, V4 alone links above, W4 alone clears a flag.
 unfoldable pub event-of : Access → Outcome → Registers → Event
 event-of ReadHead o r = Round
 event-of ReadTail o r = Quiet
@@ -56,7 +56,7 @@ event-of TailToN o r = Quiet
 event-of HeadToN Yes r = Moved (r .n)
 event-of HeadToN No r = Late (r .n)
 event-of HeadToN Bare r = Quiet
-event-of ReadTopToPut o r = Quiet
+event-of ReadTop o r = Quiet
 event-of ReadTopToTake o r = Round
 event-of ReadMark o r = Quiet
 event-of Push Yes r = Linked
@@ -64,6 +64,17 @@ event-of Push No r = Quiet
 event-of Push Bare r = Quiet
 event-of RaiseMark o r = Raised (r .t)
 event-of TopToNext o r = Quiet
+event-of ReadUpper o r = Quiet
+event-of ReadUpperToTake o r = Round
+event-of LinkAbove Yes r = Linked
+event-of LinkAbove No r = Quiet
+event-of LinkAbove Bare r = Quiet
+event-of TopToOwn o r = Quiet
+event-of TopToN o r = Quiet
+event-of Cut o r = Quiet
+event-of ClearFlag Yes r = Moved (r .t)
+event-of ClearFlag No r = Quiet
+event-of ClearFlag Bare r = Quiet
 
 -- what there is to say of one step
 pub record Note : Type 0 where

@@ -1,15 +1,15 @@
--- The step table. Document 01, "The steps": "The two listings are one table of nineteen rows." A row gives its access, its successor
--- if the access succeeds, and if not. A successor is a row or an end. Where the paper has one successor, both are that.
+-- The step table. Document 01, "The steps": "The two listings are one table of nineteen rows." Document 02, request 3, adds the
+-- seventeen of the two-way linked stack. A row gives its access, its successor if the access succeeds, and if not. A successor is a row or an end. Where the paper has one successor, both are that.
 use Prim.Native.Nat.{ℕ}
 use mathlib.Core.Bool.{Bool, true, false}
 use mathlib.Core.List.{List, [], _∷_}
 use lib.ListN.{getD}
 use Rattle.job.specs.declared.Kind.{Kind}
-use Rattle.job.specs.declared.Kind.the-variants.{Queue, Stack}
+use Rattle.job.specs.declared.Kind.the-variants.{Queue, Stack, TwoWay}
 use Rattle.machine.specs.declared.Row.{Row}
-use Rattle.machine.specs.declared.Row.the-variants.{Q1, Q2, Q3, Q4, Q5, T1, T2, T3, T4, T5, P1, P2, P3, P4, R1, R2, R3, R4, R5, Done, ItemN, ItemT, Empty}
+use Rattle.machine.specs.declared.Row.the-variants.{Q1, Q2, Q3, Q4, Q5, T1, T2, T3, T4, T5, P1, P2, P3, P4, R1, R2, R3, R4, R5, V1, V2, V3, V4, V5, V6, V7, V8, W1, W2, W3, W4, W5, W6, W7, W8, W9, Done, ItemN, ItemT, Empty}
 use Rattle.machine.specs.declared.Access.{Access}
-use Rattle.machine.specs.declared.Access.the-variants.{ReadHead, ReadTail, ReadNextOfH, ReadNextOfT, Link, TailToOwn, TailToN, HeadToN, ReadTopToPut, ReadTopToTake, ReadMark, Push, RaiseMark, TopToNext}
+use Rattle.machine.specs.declared.Access.the-variants.{ReadHead, ReadTail, ReadNextOfH, ReadNextOfT, Link, TailToOwn, TailToN, HeadToN, ReadTop, ReadTopToTake, ReadMark, Push, RaiseMark, TopToNext, ReadUpper, ReadUpperToTake, LinkAbove, TopToOwn, TopToN, Cut, ClearFlag}
 use Rattle.machine.specs.declared.Outcome.{Outcome}
 use Rattle.machine.specs.declared.Outcome.the-variants.{Yes, No, Bare}
 use Rattle.machine.specs.declared.Entry.{Entry}
@@ -41,7 +41,7 @@ table =
     -- "T5 set Head from h to n; end with item n, changed or not."
     ∷ row HeadToN ItemN ItemN
     -- "Stack put. P1 read Top as t: none, P3; else P2."
-    ∷ row ReadTopToPut P3 P2
+    ∷ row ReadTop P3 P2
     -- "P2 read t's mark: clear, P3; else P4."
     ∷ row ReadMark P3 P4
     -- "P3 set Top from t to the own node, whose next becomes t: changed, end, done; else P1."
@@ -58,6 +58,37 @@ table =
     ∷ row TopToNext ItemT ItemT
     -- "R5 set Top from t to t's next; R1."
     ∷ row TopToNext R1 R1
+    -- Two-way linked stack put. "V1 read Top as t."
+    ∷ row ReadTop V2 V2
+    -- "V2 read t's upper as u: none, V3; else V6."
+    ∷ row ReadUpper V3 V6
+    -- "V3 read t's flag: live, V4; else V7."
+    ∷ row ReadMark V4 V7
+    -- "V4 if t's cell is none and live, link the own node there with lower t and go to V5; else V1."
+    ∷ row LinkAbove V5 V1
+    -- "V5 set Top from t to the own node; end."
+    ∷ row TopToOwn Done Done
+    -- "V6 set Top from t to u; V1."
+    ∷ row TopToN V1 V1
+    -- "V7 if the lower's cell is t and live, make its upper none."
+    ∷ row Cut V8 V8
+    -- "V8 set Top from t to the lower; V1."
+    ∷ row TopToNext V1 V1
+    -- Two-way linked stack take. "W1 and W2 read as V1 and V2: u not none, W8; none with t the sentinel, end empty; else W3."
+    ∷ row ReadTop W2 W2
+    ∷ row ReadUpperToTake W3 W8
+    -- "W3 read the flag: live, W4; else W7."
+    ∷ row ReadMark W4 W7
+    -- "W4 if t's upper is none, clear the flag, cleared already or not, and go to W5; else W1."
+    ∷ row ClearFlag W5 W1
+    -- "W5 acts as V7, W6 as V8 but ends with t."
+    ∷ row Cut W6 W6
+    ∷ row TopToNext ItemT ItemT
+    -- "W7 acts as V7, then W9 as V8, to W1"
+    ∷ row Cut W9 W9
+    -- "W8 acts as V6, to W1."
+    ∷ row TopToN W1 W1
+    ∷ row TopToNext W1 W1
     ∷ []
 
 -- a row's position in the table; the four ends come behind it
@@ -81,17 +112,34 @@ position R2 = 15
 position R3 = 16
 position R4 = 17
 position R5 = 18
-position Done = 19
-position ItemN = 20
-position ItemT = 21
-position Empty = 22
+position V1 = 19
+position V2 = 20
+position V3 = 21
+position V4 = 22
+position V5 = 23
+position V6 = 24
+position V7 = 25
+position V8 = 26
+position W1 = 27
+position W2 = 28
+position W3 = 29
+position W4 = 30
+position W5 = 31
+position W6 = 32
+position W7 = 33
+position W8 = 34
+position W9 = 35
+position Done = 36
+position ItemN = 37
+position ItemT = 38
+position Empty = 39
 
 -- the table's row for where an operation stands; an ended one makes no step, so what stands there for an end does not matter
 unfoldable pub row-of : Row → Entry
 unfolding row
 row-of r = getD table (position r) (row ReadHead Q1 Q1)
 
--- "Bare" is T3's and R1's "end, empty"
+-- "Bare" is the "end, empty" of T3, R1 and W2
 unfoldable pub successor : Entry → Outcome → Row
 successor e Yes = e .yes
 successor e No = e .no
@@ -121,6 +169,23 @@ end-of R2 = no-end
 end-of R3 = no-end
 end-of R4 = no-end
 end-of R5 = no-end
+end-of V1 = no-end
+end-of V2 = no-end
+end-of V3 = no-end
+end-of V4 = no-end
+end-of V5 = no-end
+end-of V6 = no-end
+end-of V7 = no-end
+end-of V8 = no-end
+end-of W1 = no-end
+end-of W2 = no-end
+end-of W3 = no-end
+end-of W4 = no-end
+end-of W5 = no-end
+end-of W6 = no-end
+end-of W7 = no-end
+end-of W8 = no-end
+end-of W9 = no-end
 end-of Done = with-done
 end-of ItemN = with-n
 end-of ItemT = with-t
@@ -143,3 +208,5 @@ first-row Queue true = Q1
 first-row Queue false = T1
 first-row Stack true = P1
 first-row Stack false = R1
+first-row TwoWay true = V1
+first-row TwoWay false = W1

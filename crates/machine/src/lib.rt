@@ -3,7 +3,7 @@
 use job::Operation;
 use job::Step;
 
-// Where an operation stands: at one of the nineteen rows of the two listings, or ended, with done, with item n, with item t,
+// Where an operation stands: at one of the 36 rows of the listings, or ended, with done, with item n, with item t,
 // or with empty.
 pub enum Row {
     Q1,
@@ -25,6 +25,23 @@ pub enum Row {
     R3,
     R4,
     R5,
+    V1,
+    V2,
+    V3,
+    V4,
+    V5,
+    V6,
+    V7,
+    V8,
+    W1,
+    W2,
+    W3,
+    W4,
+    W5,
+    W6,
+    W7,
+    W8,
+    W9,
     Done,
     ItemN,
     ItemT,
@@ -41,12 +58,19 @@ pub enum Access {
     TailToOwn,
     TailToN,
     HeadToN,
-    ReadTopToPut,
+    ReadTop,
     ReadTopToTake,
     ReadMark,
     Push,
     RaiseMark,
     TopToNext,
+    ReadUpper,
+    ReadUpperToTake,
+    LinkAbove,
+    TopToOwn,
+    TopToN,
+    Cut,
+    ClearFlag,
 }
 
 // How an access came out: by it a row chooses its successor. Bare: the object was found empty, which ends a take.
@@ -77,11 +101,11 @@ pub struct Place {
 pub enum Event {
     // none of those below
     Quiet,
-    // T1 or R1: a take begins a round
+    // T1, R1 or W2: a take begins a round
     Round,
-    // a changing Q3 or P3
+    // a changing Q3, P3 or V4
     Linked,
-    // T5 for an item, which moved Head
+    // T5 for an item, which moved Head; or W4 on one, which cleared its flag
     Moved(u16),
     // T5 for an item, which found Head moved
     Late(u16),

@@ -5,7 +5,7 @@ use mathlib.Core.Logic.{_≢_, _⊎_}
 use Prim.Native.Nat.{ℕ, suc}
 use mathlib.Core.Bool.{Bool}
 use Rattle.job.specs.declared.Kind.{Kind}
-use Rattle.job.specs.declared.Kind.the-variants.{Queue, Stack}
+use Rattle.job.specs.declared.Kind.the-variants.{Queue, Stack, TwoWay}
 use Rattle.machine.specs.declared.Event.the-variants.{Quiet}
 use Rattle.machine.specs.Memory.{Memory, fresh-memory}
 use Rattle.machine.specs.Notes.{Note, idle}
@@ -14,11 +14,13 @@ use Rattle.machine.proofs.Turns.Locals.{Local}
 use Rattle.theory.proofs.Listing.{Listing, initial}
 use Rattle.theory.proofs.Queue.Listing as Queues
 use Rattle.theory.proofs.Stack.Listing as Stacks
+use Rattle.theory.proofs.TwoWay.Listing as TwoWays
 
 -- the listings of each object
 abbrev pub listing : (kind : Kind) → Listing kind
 listing Queue = Queues.listing
 listing Stack = Stacks.listing
+listing TwoWay = TwoWays.listing
 
 -- nothing happens to the object at step k + 1
 pub record Passes (log : ℕ → Note) (memory : ℕ → Memory) (local : ℕ → ℕ → Local) (k : ℕ) : Type 0 where

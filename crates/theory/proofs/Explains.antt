@@ -8,19 +8,17 @@ use native.Mathlib.Omega.{arith}
 use Rattle.basics.specs.Choice.{same}
 use Rattle.basics.proofs.Choice.{equal-same, unequal-same}
 use Rattle.job.specs.declared.Kind.{Kind}
-use Rattle.job.specs.declared.Kind.the-variants.{Stack}
 use Rattle.job.specs.Job.{Job}
 use Rattle.machine.specs.Multiplicity.{Line}
 use Rattle.machine.specs.Multiplicity.Line.{put, takes, empty}
 use Rattle.machine.specs.Notes.{Answer, Note, note}
 use Rattle.machine.specs.Journal.{last, answer, start, link, join, taken}
-use Rattle.machine.specs.Effects.{takers, latest-start, takes-at, effect, is-stack, took-effect, Precedes, Overlap}
+use Rattle.machine.specs.Effects.{takers, takes-at, effect, is-stack, took-effect, Precedes, Overlap}
 use Rattle.machine.specs.Effects.Effect.{none, stands}
 use Rattle.machine.specs.Record.{Recorded, the-record}
 use Rattle.machine.specs.Left.{left}
 use Rattle.machine.specs.Explained.{members, times, Says, OpenLine, Answered, InEffect, IsOperation, Explained}
 use Rattle.machine.specs.Explained.OpenLine.{its-put, its-takes}
-use Rattle.machine.proofs.ByKind.{stack-of}
 use Rattle.machine.proofs.Effected.{Effected, effected, effect-of-put, taker-in}
 use Rattle.machine.proofs.Effected.Effected.{by-put, by-take, by-empty, by-none}
 use Rattle.machine.proofs.Placed.{Placed, placed, recorded, ascends-to}
@@ -116,7 +114,7 @@ module _ (j : Job) (k : ℕ) (laws : Laws (course j) k) where
     ineffective : effect (j .object) (note j) (j .count) k o ≡ none → took-effect (j .object) (note j) k o ≡ false → Unanswered o
 
   unanswered : (o : ℕ) → IsOperation (j .count) o → last (note j) k o ≡ 0 → Unanswered o
-  unfolding deeds takes-at
+  unfolding deeds
   unanswered o op ongoing = go (listing (j .object) .phase (life (course j) k o op .on)) (life (course j) k o op .did)
     where
       nothing : Going (deeds (note j) k o) → Effected (j .object) (note j) (j .count) k o → Unanswered o
@@ -131,10 +129,8 @@ module _ (j : Job) (k : ℕ) (laws : Laws (course j) k) where
       go linked (l, e) = effective (link (note j) k o) (put o) (effect-of-put (j .object) (note j) (j .count) k o (l .linked)) (its-put (linked-is-put (course j) k o op (l .linked)) (l .linked)) (linked-took-effect (j .object) (note j) k o (l .linked))
       go done (l, e) = absurd (e .has-ended ongoing)
       go (joined item) (is, h, e) =
-          let q : j .object ≡ Stack = stack-of (j .object) is in
           let some : taken (note j) k o ≢ 0 = λ z. h .some-item (sym (h .took) ∙ z) in
-          let at-round : effect (j .object) (note j) (j .count) k o ≡ stands (latest-start (note j) (j .count) k (taken (note j) k o)) (takes (taken (note j) k o) (takers (note j) (j .count) k (taken (note j) k o))) = effect-of-taker (course j) k o op some ∙ ap (λ object. stands (takes-at object (note j) (j .count) k (taken (note j) k o)) (takes (taken (note j) k o) (takers (note j) (j .count) k (taken (note j) k o)))) q in
-          effective (latest-start (note j) (j .count) k (taken (note j) k o)) (takes (taken (note j) k o) (takers (note j) (j .count) k (taken (note j) k o))) at-round (its-takes (joined-is-take (course j) k o op (h .joined)) q some (taker-in (note j) (j .count) k o (taken (note j) k o) op refl)) (joined-took-effect (j .object) (note j) k o is (h .joined))
+          effective (takes-at (j .object) (note j) (j .count) k (taken (note j) k o)) (takes (taken (note j) k o) (takers (note j) (j .count) k (taken (note j) k o))) (effect-of-taker (course j) k o op some) (its-takes (joined-is-take (course j) k o op (h .joined)) is some (taker-in (note j) (j .count) k o (taken (note j) k o) op refl)) (joined-took-effect (j .object) (note j) k o is (h .joined))
       go (got item) (h, e) = absurd (e .has-ended ongoing)
       go bare (h, e) = absurd (e .has-ended ongoing)
 

@@ -14,4 +14,5 @@ pub mod Explains
 pub mod TakesAt
 pub mod Queue
 pub mod Stack
+pub mod TwoWay
 pub mod Theorem

@@ -2,25 +2,26 @@
 -- begins its last round, and that it is nothing elsewhere. Assumes nothing.
 use mathlib.Core.Path.{_≡_, refl, sym, ap, subst, _∙_}
 use mathlib.Core.Logic.{_≢_, _⊎_, inl, inr}
-use Prim.Native.Nat.{ℕ, _≤_}
+use Prim.Native.Nat.{ℕ, zero, suc, _≤_}
 use mathlib.Core.Bool.{true, and-eq-true-iff}
 use mathlib.Core.List.{[], _∷_}
 use native.Mathlib.Omega.{arith}
 use Rattle.basics.specs.Choice.{same}
 use Rattle.basics.proofs.Choice.{equal-same, unequal-same}
 use Rattle.job.specs.declared.Kind.{Kind}
-use Rattle.machine.specs.declared.Event.the-variants.{Round, Linked}
+use Rattle.machine.specs.declared.Event.the-variants.{Round, Linked, Moved}
 use Rattle.machine.specs.Multiplicity.Line.{put, takes, empty}
 use Rattle.machine.specs.Notes.{Answer}
-use Rattle.machine.specs.Journal.{is-linked, item-of, made, links, joins, answer, start, link, join, taken}
-use Rattle.machine.specs.Effects.{takers, latest-start, takes-at, effect, rule}
+use Rattle.machine.specs.Journal.{is-linked, item-of, moved-to, made, links, joins, answer, start, link, join, taken}
+use Rattle.machine.specs.Effects.{takers, first-move, latest-start, takes-at, effect, rule}
 use Rattle.machine.specs.Effects.Effect.{stands}
 use Rattle.machine.specs.Record.{line-at}
 use Rattle.machine.specs.Explained.{IsOperation}
-use Rattle.machine.proofs.Effected.{Effected, effected, effect-of-put, RoundLine, lined, lined-round, line-of-effect, line-without-effect}
+use Rattle.machine.proofs.Effected.{Effected, effected, effect-of-put, RoundLine, lined, lined-round, line-of-effect, line-without-effect, first-move-event}
 use Rattle.machine.proofs.Effected.Effected.{by-put, by-take, by-empty, by-none}
 use Rattle.machine.specs.Effects.Rule.{by-round}
-use Rattle.theory.proofs.Course.{Course, listing}
+use Rattle.machine.proofs.Stamps.{first-move-le}
+use Rattle.theory.proofs.Course.{Course, PassesIn, ActsIn, passes-event, listing}
 use Rattle.theory.proofs.Deeds.{deeds, FoundEmpty, Did, taken-not-linked, empty-phase}
 use Rattle.theory.proofs.Life.{life, links-once, joins-once}
 
@@ -68,6 +69,15 @@ module _ {kind : Kind} (c : Course kind) (k s : ℕ) (from-one : 1 ≤ s) (to-k 
       ∙ ap (λ m. stands (takes-at kind (c .log) (c .count) k m) (takes m (takers (c .log) (c .count) k m))) t
       ∙ ap (λ a. stands a (takes n (takers (c .log) (c .count) k n))) h)
 
+  -- no line, at a step of one of them, where their line stands elsewhere
+  pub line-of-taker-elsewhere : (n : ℕ) → taken (c .log) k o ≡ n → n ≢ 0 → takes-at kind (c .log) (c .count) k n ≢ s → line-at kind (c .log) (c .count) k s ≡ []
+  line-of-taker-elsewhere n t some other =
+      line-without-effect kind (c .log) (c .count) k s
+      (λ line h.
+      let at-own : stands (takes-at kind (c .log) (c .count) k (taken (c .log) k o)) (takes (taken (c .log) k o) (takers (c .log) (c .count) k (taken (c .log) k o))) ≡ stands s line = sym (effect-of-taker c k o op (λ z. some (sym t ∙ z))) ∙ ap (effect kind (c .log) (c .count) k) (sym by) ∙ h in
+      let at : takes-at kind (c .log) (c .count) k (taken (c .log) k o) ≡ s = cc in
+      other (ap (takes-at kind (c .log) (c .count) k) (sym t) ∙ at))
+
   -- a round of an operation that answers empty, if it is its last
   pub line-of-empty : answer (c .log) k o ≡ Answer.empty → start (c .log) k o ≡ s → line-at kind (c .log) (c .count) k s ≡ record { step = s; line = empty o } ∷ []
   line-of-empty a f = line-of-effect kind (c .log) (c .count) k s (empty o) (ap (effect kind (c .log) (c .count) k) by ∙ effect-of-empty c k o op a ∙ ap (λ a. stands a (empty o)) f)
@@ -90,3 +100,21 @@ joiner-took c k s {o} {n} op by item some low high =
     let joined : joins (c .log) o s ≡ true = rw (equal-same by, unequal-same {m = item-of (c .log s .event)} {n = 0} (λ z. some (sym item ∙ z))) refl in
     let at : join (c .log) k o ≡ s = joins-once c k o s op joined low high in
     (at, ap (λ x. item-of (c .log x .event)) at ∙ item)
+
+-- the operation whose step moved to n took n
+pub mover-took : {kind : Kind} (c : Course kind) (k s : ℕ) {o n : ℕ} → ActsIn c s o → c .log (suc s) .event ≡ Moved n → n ≢ 0 → suc s ≤ k → taken (c .log) k o ≡ n
+unfolding item-of
+mover-took c k s a e some early = joiner-took c k (suc s) (a .operation) (a .by) (ap item-of e) some (omega arith) early .1
+
+-- so the first step that moved to n was made by a taker of n
+pub moved-by-taker : {kind : Kind} (c : Course kind) (k n : ℕ) → n ≢ 0 → first-move (c .log) k n ≢ 0 → taken (c .log) k (c .log (first-move (c .log) k n) .by) ≡ n
+unfolding moved-to
+moved-by-taker c k n some found = at-step (first-move (c .log) k n) found (first-move-le (c .log) n k) (first-move-event (c .log) k n some found)
+  where
+    by-maker : (s : ℕ) → suc s ≤ k → c .log (suc s) .event ≡ Moved n → PassesIn c s ⊎ ((o : ℕ) × ActsIn c s o) → taken (c .log) k (c .log (suc s) .by) ≡ n
+    by-maker s early e (inl a) = absurd (some (sym (ap moved-to e) ∙ ap moved-to (passes-event a)))
+    by-maker s early e (inr a) = ap (taken (c .log) k) (a .1 .by) ∙ mover-took c k s (a .1) e some early
+
+    at-step : (s : ℕ) → s ≢ 0 → s ≤ k → c .log s .event ≡ Moved n → taken (c .log) k (c .log s .by) ≡ n
+    at-step zero f early e = absurd (f refl)
+    at-step (suc s) f early e = by-maker s early e (c .step s)

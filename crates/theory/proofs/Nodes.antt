@@ -12,6 +12,10 @@ use Rattle.basics.proofs.Choice.{pick-true, pick-false, equal-same, unequal-sam
 use Rattle.basics.proofs.Maps.{upd-there}
 use Rattle.machine.specs.Left.{walk}
 
+-- the sentinel, or a node that a put linked; a node's `born` is the step that linked it, 0 if it is not linked
+abbrev pub IsLinked : (ℕ → ℕ) → ℕ → Type 0
+IsLinked born i = i ≢ 0 → born i ≢ 0
+
 -- from node i on, the nodes are those of the list; 0 is none
 pub data Nodes (next : ℕ → ℕ) : ℕ → List ℕ → Type 0 where
   end : {i : ℕ} → i ≡ 0 → Nodes next i []

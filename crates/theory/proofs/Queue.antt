@@ -18,9 +18,10 @@ use Rattle.machine.specs.Memory.{fresh-memory}
 use Rattle.machine.specs.Journal.{taken}
 use Rattle.machine.specs.Effects.{takes-at}
 use Rattle.theory.proofs.Course.{Course}
+use Rattle.theory.proofs.Lines.{moved-by-taker}
 use Rattle.theory.proofs.Laws.{Laws}
 use Rattle.theory.proofs.Queue.Now.{front}
-use Rattle.theory.proofs.Queue.Results.{item-is-node, moved-from-first, moved-to-join, item-moved, moved-by-taker}
+use Rattle.theory.proofs.Queue.Results.{item-is-node, moved-from-first, moved-to-join, item-moved}
 use Rattle.theory.proofs.Queue.Applies.{contents, contents-none, step-applies}
 
 fresh-front : (c : Course Queue) → front c 0 ≡ 0

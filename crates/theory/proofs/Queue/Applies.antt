@@ -18,7 +18,7 @@ use Rattle.machine.specs.Left.{left-in}
 use Rattle.machine.proofs.Stamps.{first-move-stays}
 use Rattle.machine.proofs.Effected.{Lineless, Lineless.quiet, Lineless.late, found-empty, taker-in, line-of-none}
 use Rattle.theory.proofs.Course.{Course, PassesIn, ActsIn, passes-event}
-use Rattle.theory.proofs.Lines.{line-of-link, line-of-takers, line-of-empty, line-of-round}
+use Rattle.theory.proofs.Lines.{line-of-link, line-of-takers, line-of-empty, line-of-round, mover-took}
 use Rattle.theory.proofs.Laws.{Applies}
 use Rattle.theory.proofs.Applies.{applies-none, applies-put, applies-empty, applies-takes}
 use Rattle.theory.proofs.Nodes.{Nodes.end, nodes-walk}
@@ -27,7 +27,7 @@ use Rattle.theory.proofs.Queue.Keeps.{Turns, Turns.keeps, Turns.adds, T
 use Rattle.theory.proofs.Queue.Contents.{walk-contents}
 use Rattle.theory.proofs.Queue.Now.{moved, moved-is, now, front}
 use Rattle.theory.proofs.Queue.Always.{always, step-changes}
-use Rattle.theory.proofs.Queue.Results.{empty-found-none, mover-took}
+use Rattle.theory.proofs.Queue.Results.{empty-found-none}
 
 module _ (c : Course Queue) where
   -- the nodes behind Head after s steps

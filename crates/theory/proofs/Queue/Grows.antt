@@ -7,7 +7,8 @@ use native.Mathlib.Omega.{arith}
 use Rattle.basics.proofs.Choice.{split}
 use Rattle.basics.proofs.Maps.{upd-there, upd-elim}
 use Rattle.machine.specs.declared.Event.{Event}
-use Rattle.theory.proofs.Queue.Order.{IsLinked, link-keeps-born, link-keeps-linked, link-keeps-next}
+use Rattle.theory.proofs.Nodes.{IsLinked}
+use Rattle.theory.proofs.Queue.Order.{link-keeps-born, link-keeps-linked, link-keeps-next}
 use Rattle.theory.proofs.Queue.Memory.{Now, Sound, Change, Change.stays, Change.links, Change.tail-moves, Change.head-moves}
 
 -- from v to w by step k + 1

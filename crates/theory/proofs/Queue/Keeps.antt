@@ -9,8 +9,8 @@ use Rattle.basics.proofs.Choice.{split}
 use Rattle.basics.proofs.Maps.{upd-here, upd-there, upd-elim}
 use Rattle.machine.specs.declared.Event.{Event}
 use Rattle.machine.specs.declared.Event.the-variants.{Linked, Moved}
-use Rattle.theory.proofs.Nodes.{Nodes, nodes-first}
-use Rattle.theory.proofs.Queue.Order.{IsLinked, CanLink, order-later, link-keeps-order, link-keeps-born, link-keeps-linked, link-lengthens}
+use Rattle.theory.proofs.Nodes.{IsLinked, Nodes, nodes-first}
+use Rattle.theory.proofs.Queue.Order.{CanLink, order-later, link-keeps-order, link-keeps-born, link-keeps-linked, link-lengthens}
 use Rattle.theory.proofs.Queue.Memory.{Now, Ends, Sound, Still, Still.quiet, Change, Change.stays, Change.links, Change.tail-moves, Change.head-moves}
 
 -- the contents after a step, by its event: a link adds at the back, a move of Head removes the front, nothing else changes them

@@ -10,8 +10,8 @@ use Rattle.basics.proofs.Choice.{split}
 use Rattle.basics.proofs.Maps.{upd-here}
 use Rattle.machine.specs.declared.Event.{Event}
 use Rattle.machine.specs.declared.Event.the-variants.{Quiet, Round, Linked, Moved, Late}
-use Rattle.theory.proofs.Nodes.{Nodes, Nodes.end}
-use Rattle.theory.proofs.Queue.Order.{IsLinked, Order, CanLink}
+use Rattle.theory.proofs.Nodes.{IsLinked, Nodes, Nodes.end}
+use Rattle.theory.proofs.Queue.Order.{Order, CanLink}
 
 -- Head, Tail and the nexts; the step that linked a node, and the first that moved Head to it (0: none)
 pub record Now : Type 0 where

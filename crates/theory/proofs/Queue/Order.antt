@@ -8,11 +8,7 @@ use native.Mathlib.Omega.{arith}
 use Rattle.basics.specs.Maps.{upd}
 use Rattle.basics.proofs.Choice.{split}
 use Rattle.basics.proofs.Maps.{upd-here, upd-there, upd-elim}
-use Rattle.theory.proofs.Nodes.{Nodes, Nodes.end, Nodes.node}
-
--- the sentinel, or a node that a put linked
-abbrev pub IsLinked : (ℕ → ℕ) → ℕ → Type 0
-IsLinked born i = i ≢ 0 → born i ≢ 0
+use Rattle.theory.proofs.Nodes.{IsLinked, Nodes, Nodes.end, Nodes.node}
 
 -- after k steps on `count` operations
 pub record Order (count k : ℕ) (next born : ℕ → ℕ) : Type 0 where

@@ -1,25 +1,21 @@
 -- What a queue operation took or answered after k steps, with what it knows by that: Head moved to the item of a taker after its last T1
 -- and not after its T5, and one that answers empty had nothing behind Head at its last T1. Assumes nothing.
-use mathlib.Core.Path.{_≡_, refl, sym, ap, _∙_}
-use mathlib.Core.Logic.{_≢_, _⊎_, inl, inr}
-use Prim.Native.Nat.{ℕ, zero, suc, _≤_}
+use mathlib.Core.Path.{_≡_, _∙_}
+use mathlib.Core.Logic.{_≢_}
+use Prim.Native.Nat.{ℕ, _≤_}
 use native.Mathlib.Omega.{arith}
 use Rattle.job.specs.declared.Kind.the-variants.{Queue}
-use Rattle.machine.specs.declared.Event.the-variants.{Moved}
 use Rattle.machine.specs.Notes.{Answer}
-use Rattle.machine.specs.Journal.{item-of, moved-to, made, first, start, join, taken, answer}
+use Rattle.machine.specs.Journal.{made, first, start, join, taken, answer}
 use Rattle.machine.specs.Effects.{first-move}
 use Rattle.machine.specs.Explained.{IsOperation}
 use Rattle.machine.proofs.Turns.Locals.{Local}
 use Rattle.machine.proofs.Turns.Queue.{On}
 use Rattle.machine.proofs.Turns.Queue.On.{at-q1, at-q2, at-q3, at-q4, at-q5, at-t1, at-t2, at-t3, at-t4, at-t5, at-done, at-item, at-empty}
-use Rattle.machine.proofs.Stamps.{first-move-le}
-use Rattle.machine.proofs.Effected.{first-move-event}
-use Rattle.theory.proofs.Course.{Course, PassesIn, ActsIn, passes-event}
+use Rattle.theory.proofs.Course.{Course}
 use Rattle.theory.proofs.Deeds.{deeds}
 use Rattle.theory.proofs.Life.{operation-some, life, start-from-first}
 use Rattle.theory.proofs.Outcomes.{Known, taker-knows, empty-knows, item-known}
-use Rattle.theory.proofs.Lines.{joiner-took}
 use Rattle.theory.proofs.Queue.Listing.{phase}
 use Rattle.theory.proofs.Queue.Memory.{Now}
 use Rattle.theory.proofs.Queue.Rows.{Served, Knows}
@@ -83,21 +79,3 @@ module _ (c : Course Queue) (k o : ℕ) (op : IsOperation (c .count) o) where
 
     pub item-moved : first-move (c .log) k (taken (c .log) k o) ≢ 0
     item-moved z = taken-result .0 .has-moved (moved-first ∙ z)
-
--- the operation whose T5 moved Head to n took n
-pub mover-took : (c : Course Queue) (k s : ℕ) {o n : ℕ} → ActsIn c s o → c .log (suc s) .event ≡ Moved n → n ≢ 0 → suc s ≤ k → taken (c .log) k o ≡ n
-unfolding item-of
-mover-took c k s a e some early = joiner-took c k (suc s) (a .operation) (a .by) (ap item-of e) some (omega arith) early .1
-
--- so the first T5 that moved Head to n was made by a taker of n
-pub moved-by-taker : (c : Course Queue) (k n : ℕ) → n ≢ 0 → first-move (c .log) k n ≢ 0 → taken (c .log) k (c .log (first-move (c .log) k n) .by) ≡ n
-unfolding moved-to
-moved-by-taker c k n some found = at-step (first-move (c .log) k n) found (first-move-le (c .log) n k) (first-move-event (c .log) k n some found)
-  where
-    by-maker : (s : ℕ) → suc s ≤ k → c .log (suc s) .event ≡ Moved n → PassesIn c s ⊎ ((o : ℕ) × ActsIn c s o) → taken (c .log) k (c .log (suc s) .by) ≡ n
-    by-maker s early e (inl a) = absurd (some (sym (ap moved-to e) ∙ ap moved-to (passes-event a)))
-    by-maker s early e (inr a) = ap (taken (c .log) k) (a .1 .by) ∙ mover-took c k s (a .1) e some early
-
-    at-step : (s : ℕ) → s ≢ 0 → s ≤ k → c .log s .event ≡ Moved n → taken (c .log) k (c .log s .by) ≡ n
-    at-step zero f early e = absurd (f refl)
-    at-step (suc s) f early e = by-maker s early e (c .step s)

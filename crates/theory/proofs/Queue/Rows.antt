@@ -7,7 +7,7 @@ use native.Mathlib.Omega.{arith}
 use Rattle.basics.proofs.Choice.{split}
 use Rattle.machine.specs.declared.Row.the-variants.{Q1, Q2, Q3, Q4, Q5, T1, T2, T3, T4, T5, Done, ItemN, Empty}
 use Rattle.machine.proofs.Turns.Locals.{Local, at-row}
-use Rattle.theory.proofs.Queue.Order.{IsLinked}
+use Rattle.theory.proofs.Nodes.{IsLinked}
 use Rattle.theory.proofs.Queue.Memory.{Now, Sound}
 use Rattle.theory.proofs.Queue.Grows.{Grows}
 

@@ -13,7 +13,7 @@ use Rattle.machine.specs.Memory.{fresh-memory}
 use Rattle.machine.specs.Journal.{link}
 use Rattle.machine.specs.Left.{walk}
 use Rattle.machine.specs.Explained.{IsOperation}
-use Rattle.machine.proofs.Lists.{Distinct, distinct-at-most}
+use Rattle.machine.proofs.Lists.{Distinct, distinct-rest, distinct-at-most}
 use Rattle.machine.proofs.Stamps.{link-stays, link-new}
 use Rattle.theory.proofs.Course.{Course}
 use Rattle.theory.proofs.Life.{operation-some}
@@ -34,12 +34,6 @@ record Chain (c : Course Stack) (k : ℕ) : Type 0 where
 
 put-stays : {c : Course Stack} {k i : ℕ} → Put c k i → Put c (suc k) i
 put-stays {c} {k} {i} p = record { operation = p .operation; linked = λ z. p .linked (sym (link-stays (c .log) k i (suc k) (omega arith) (p .linked)) ∙ z) }
-
-pub distinct-first : {x : ℕ} {l : List ℕ} → Distinct (x ∷ l) → List·Memᴰ x l → ⊥
-distinct-first (Distinct.more fresh d) = fresh
-
-distinct-rest : {x : ℕ} {l : List ℕ} → Distinct (x ∷ l) → Distinct l
-distinct-rest (Distinct.more fresh d) = d
 
 module _ (c : Course Stack) (k : ℕ) (was : Chain c k) where
   -- the node of a push is not yet on the stack

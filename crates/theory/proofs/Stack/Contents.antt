@@ -15,14 +15,14 @@ use Rattle.machine.specs.Memory.{fresh-memory}
 use Rattle.machine.specs.Journal.{link}
 use Rattle.machine.specs.Effects.{sift, latest-start}
 use Rattle.machine.specs.Left.{left-in}
-use Rattle.machine.proofs.Lists.{Distinct, sift-agrees}
+use Rattle.machine.proofs.Lists.{Distinct, distinct-first, sift-keeps, sift-drops, sift-agrees}
 use Rattle.machine.proofs.Stamps.{link-stays}
 use Rattle.theory.proofs.Course.{Course}
 use Rattle.theory.proofs.Life.{operation-some}
 use Rattle.theory.proofs.Stack.Raised.{raised, raised-le, raised-stays}
 use Rattle.theory.proofs.Stack.Steps.{Pushes, Pops}
 use Rattle.theory.proofs.Stack.Keeps.{keeps}
-use Rattle.theory.proofs.Stack.Chain.{distinct-first, on-stack, stack-distinct, stack-puts, stack-none, stack-top, stack-pushed, stack-popped, stack-stays, stack-walk}
+use Rattle.theory.proofs.Stack.Chain.{on-stack, stack-distinct, stack-puts, stack-none, stack-top, stack-pushed, stack-popped, stack-stays, stack-walk}
 use Rattle.theory.proofs.Stack.Takers.{takers-line, raised-has-line, line-marked}
 
 -- a line at step `line` (0: none) does not stand at s or before
@@ -49,15 +49,6 @@ not-yet-kept s line n = go (split line 0) (compare line s)
     go (inl z) b = not-yet-none (suc s) z ∙ sym (not-yet-none s z)
     go (inr m) (inl h) = already (suc s) m (omega arith) ∙ sym (already s m h)
     go (inr m) (inr h) = not-yet-later (suc s) (omega arith) ∙ sym (not-yet-later s h)
-
--- a sift of a list with one more node in front
-sift-keeps : (f : ℕ → Bool) (x : ℕ) (l : List ℕ) → f x ≡ true → sift f (x ∷ l) ≡ x ∷ sift f l
-unfolding sift
-sift-keeps f x l t = pick-then _ _ t
-
-sift-drops : (f : ℕ → Bool) (x : ℕ) (l : List ℕ) → f x ≡ false → sift f (x ∷ l) ≡ sift f l
-unfolding sift
-sift-drops f x l t = pick-else _ _ t
 
 module _ (c : Course Stack) (k : ℕ) where
   -- is node t still there after s steps?
