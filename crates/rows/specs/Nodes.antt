@@ -1,4 +1,4 @@
--- The row of a node: its next and its mark.
+-- The row of a node: its next, its mark and its upper.
 use Prim.Native.Nat.{ℕ}
 use mathlib.Core.List.{List}
 use Rattle.basics.specs.Maps.{at}
@@ -6,7 +6,7 @@ use Rattle.rows.specs.Rows.{column, HasRows}
 
 -- how many columns a node's row has
 abbrev pub node-width : ℕ
-node-width = 2
+node-width = 3
 
 -- the nodes' nexts
 abbrev pub nexts : List ℕ → ℕ → ℕ
@@ -15,6 +15,10 @@ nexts l = column node-width 0 (at l)
 -- the nodes' marks
 abbrev pub marks : List ℕ → ℕ → ℕ
 marks l = column node-width 1 (at l)
+
+-- the nodes' uppers
+abbrev pub uppers : List ℕ → ℕ → ℕ
+uppers l = column node-width 2 (at l)
 
 -- a list has the rows of nodes up to node `n`
 abbrev pub HasNodes : ℕ → List ℕ → Type 0

@@ -10,11 +10,11 @@ pub data Column : Type 0 where
   First : Column
   -- its last step
   Last : Column
-  -- its last T1 or R1
+  -- its last T1, R1 or W2
   Start : Column
-  -- its changing Q3 or P3
+  -- its changing Q3, P3 or V4
   Link : Column
-  -- the item of its T5 or R3
+  -- the item of its T5 or R3, or of the W4 that it passed
   Taken : Column
   -- where the line of its item's takers stands; an item is a put's operation number
   Stands : Column

@@ -4,8 +4,8 @@ ghost use Prim.Native.Nat.{_<_};
 ghost use Rattle.basics.specs.Maps.{at, upd};
 ghost use Rattle.rows.specs.Rows.{place, column, HasRows};
 
-// The columns of an operation's row: its first step, its last step, its last T1 or R1, its changing Q3 or P3, the item of its T5 or R3,
-// and where the line of its item's takers stands.
+// The columns of an operation's row: its first step, its last step, its last T1, R1 or W2, its changing Q3, P3 or V4, the item of
+// its T5, R3 or W4, and where the line of its item's takers stands.
 pub const FIRST: usize = 0;
 
 pub const LAST: usize = 1;
@@ -21,13 +21,15 @@ pub const STANDS: usize = 5;
 // how many they are
 pub const OPS: usize = 6;
 
-// The columns of a node's row: its next and its mark.
+// The columns of a node's row: its next, its mark and its upper.
 pub const NEXT: usize = 0;
 
 pub const MARK: usize = 1;
 
+pub const UPPER: usize = 2;
+
 // how many they are
-pub const NODES: usize = 2;
+pub const NODES: usize = 3;
 
 // Cell `f` of row `i`, in rows of so many cells.
 pub fn cell(rows: &[u16], width: usize, i: u16, f: usize) -> u16
