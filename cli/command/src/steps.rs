@@ -127,6 +127,9 @@ fn cell(cell: Cell) -> String {
         Cell::Top => "Top".to_string(),
         Cell::Next(node) => format!("node {node}'s next"),
         Cell::Mark(node) => format!("node {node}'s mark"),
+        Cell::Upper(node) => format!("node {node}'s upper"),
+        Cell::Flag(node) => format!("node {node}'s flag"),
+        Cell::Whole(node) => format!("node {node}'s cell"),
     }
 }
 
