@@ -1,4 +1,5 @@
--- The step table by position. Document 01, "The steps": "The two listings are one table of nineteen rows."
+-- The step table by position. Document 01, "The steps": "The two listings are one table of nineteen rows." Document 02, request 3, adds
+-- the seventeen of the two-way linked stack.
 use Prim.Native.Nat.{ℕ}
 use lib.ListN.{getD}
 use Rattle.machine.specs.declared.Row.the-variants.{Q1}

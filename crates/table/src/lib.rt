@@ -1,5 +1,6 @@
-// The step table. Document 01: "The two listings are one table of nineteen rows." A row gives its access, its successor if the
-// access succeeds, and if not; where the paper has one successor, both are that.
+// The step table. Document 01: "The two listings are one table of nineteen rows." Document 02, request 3, adds the seventeen of the
+// two-way linked stack, so that there are 36. A row gives its access, its successor if the access succeeds, and if not; where the
+// paper has one successor, both are that.
 use job::Kind;
 use machine::Access;
 use machine::Entry;
@@ -11,7 +12,7 @@ ghost use Rattle.machine.specs.Table.{row-of, ended, «first-row»};
 ghost use Rattle.table.specs.Position.{entry-at};
 
 // how many rows there are
-const COUNT: usize = 19;
+const COUNT: usize = 36;
 
 const ROWS: [Entry; COUNT] = [
     // Queue put. "Q1 read Tail as t."
@@ -76,7 +77,7 @@ const ROWS: [Entry; COUNT] = [
     },
     // Stack put. "P1 read Top as t: none, P3; else P2."
     Entry {
-        access: Access::ReadTopToPut,
+        access: Access::ReadTop,
         yes: Row::P3,
         no: Row::P2,
     },
@@ -128,11 +129,110 @@ const ROWS: [Entry; COUNT] = [
         yes: Row::R1,
         no: Row::R1,
     },
+    // Two-way linked stack put. "V1 read Top as t."
+    Entry {
+        access: Access::ReadTop,
+        yes: Row::V2,
+        no: Row::V2,
+    },
+    // "V2 read t's upper as u: none, V3; else V6."
+    Entry {
+        access: Access::ReadUpper,
+        yes: Row::V3,
+        no: Row::V6,
+    },
+    // "V3 read t's flag: live, V4; else V7."
+    Entry {
+        access: Access::ReadMark,
+        yes: Row::V4,
+        no: Row::V7,
+    },
+    // "V4 if t's cell is none and live, link the own node there with lower t and go to V5; else V1."
+    Entry {
+        access: Access::LinkAbove,
+        yes: Row::V5,
+        no: Row::V1,
+    },
+    // "V5 set Top from t to the own node; end."
+    Entry {
+        access: Access::TopToOwn,
+        yes: Row::Done,
+        no: Row::Done,
+    },
+    // "V6 set Top from t to u; V1."
+    Entry {
+        access: Access::TopToN,
+        yes: Row::V1,
+        no: Row::V1,
+    },
+    // "V7 if the lower's cell is t and live, make its upper none."
+    Entry {
+        access: Access::Cut,
+        yes: Row::V8,
+        no: Row::V8,
+    },
+    // "V8 set Top from t to the lower; V1."
+    Entry {
+        access: Access::TopToNext,
+        yes: Row::V1,
+        no: Row::V1,
+    },
+    // Two-way linked stack take. "W1 and W2 read as V1 and V2: u not none, W8; none with t the sentinel, end empty; else W3."
+    Entry {
+        access: Access::ReadTop,
+        yes: Row::W2,
+        no: Row::W2,
+    },
+    Entry {
+        access: Access::ReadUpperToTake,
+        yes: Row::W3,
+        no: Row::W8,
+    },
+    // "W3 read the flag: live, W4; else W7."
+    Entry {
+        access: Access::ReadMark,
+        yes: Row::W4,
+        no: Row::W7,
+    },
+    // "W4 if t's upper is none, clear the flag, cleared already or not, and go to W5; else W1."
+    Entry {
+        access: Access::ClearFlag,
+        yes: Row::W5,
+        no: Row::W1,
+    },
+    // "W5 acts as V7, W6 as V8 but ends with t."
+    Entry {
+        access: Access::Cut,
+        yes: Row::W6,
+        no: Row::W6,
+    },
+    Entry {
+        access: Access::TopToNext,
+        yes: Row::ItemT,
+        no: Row::ItemT,
+    },
+    // "W7 acts as V7, then W9 as V8, to W1"
+    Entry {
+        access: Access::Cut,
+        yes: Row::W9,
+        no: Row::W9,
+    },
+    // "W8 acts as V6, to W1."
+    Entry {
+        access: Access::TopToN,
+        yes: Row::W1,
+        no: Row::W1,
+    },
+    Entry {
+        access: Access::TopToNext,
+        yes: Row::W1,
+        no: Row::W1,
+    },
 ];
 
 // The row at a position of the table.
 fn entry(i: usize) -> Entry
-    requires { ⌜ i < 19 ⌝ }
+    requires { ⌜ i < 36 ⌝ }
     ensures { λ e. ⌜ e ≡ entry-at i ⌝ }
 {
     ROWS[i]
@@ -164,6 +264,23 @@ pub fn row_of(r: Row) -> Entry
         Row::R3 => entry(16),
         Row::R4 => entry(17),
         Row::R5 => entry(18),
+        Row::V1 => entry(19),
+        Row::V2 => entry(20),
+        Row::V3 => entry(21),
+        Row::V4 => entry(22),
+        Row::V5 => entry(23),
+        Row::V6 => entry(24),
+        Row::V7 => entry(25),
+        Row::V8 => entry(26),
+        Row::W1 => entry(27),
+        Row::W2 => entry(28),
+        Row::W3 => entry(29),
+        Row::W4 => entry(30),
+        Row::W5 => entry(31),
+        Row::W6 => entry(32),
+        Row::W7 => entry(33),
+        Row::W8 => entry(34),
+        Row::W9 => entry(35),
         // no caller has one of these: an operation that has ended makes no step
         Row::Done => entry(0),
         Row::ItemN => entry(0),
@@ -196,6 +313,23 @@ pub fn has_ended(r: Row) -> bool
         Row::R3 => false,
         Row::R4 => false,
         Row::R5 => false,
+        Row::V1 => false,
+        Row::V2 => false,
+        Row::V3 => false,
+        Row::V4 => false,
+        Row::V5 => false,
+        Row::V6 => false,
+        Row::V7 => false,
+        Row::V8 => false,
+        Row::W1 => false,
+        Row::W2 => false,
+        Row::W3 => false,
+        Row::W4 => false,
+        Row::W5 => false,
+        Row::W6 => false,
+        Row::W7 => false,
+        Row::W8 => false,
+        Row::W9 => false,
         Row::Done => true,
         Row::ItemN => true,
         Row::ItemT => true,
@@ -210,5 +344,6 @@ pub fn first_row(object: Kind, put: bool) -> Row
     match object {
         Kind::Queue => { if put { Row::Q1 } else { Row::T1 } }
         Kind::Stack => { if put { Row::P1 } else { Row::R1 } }
+        Kind::TwoWay => { if put { Row::V1 } else { Row::W1 } }
     }
 }

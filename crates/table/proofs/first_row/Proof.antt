@@ -11,7 +11,10 @@ first-row-spec =
     (tie.spec
     (λ c. search needs)
     (λ c. search needs)
+    (λ c. search needs)
     (λ c. rw (c .before .enum-told .given .1, c .if1 .taken))
     (λ c. rw (c .before .enum-told .given .1, c .if1 .left))
     (λ c. rw (c .before .enum-told2 .given .1, c .if2 .taken))
-    (λ c. rw (c .before .enum-told2 .given .1, c .if2 .left)))
+    (λ c. rw (c .before .enum-told2 .given .1, c .if2 .left))
+    (λ c. rw (c .before .enum-told3 .given .1, c .if3 .taken))
+    (λ c. rw (c .before .enum-told3 .given .1, c .if3 .left)))
