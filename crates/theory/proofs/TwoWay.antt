@@ -9,7 +9,7 @@ pub mod Standing
 pub mod Keeps
 pub mod Results
 pub mod Played
-use mathlib.Core.Path.{_≡_, refl, ap, subst}
+use mathlib.Core.Path.{_≡_, refl, ap}
 use mathlib.Core.Logic.{_≢_}
 use Prim.Native.Nat.{ℕ, _≤_, _<_}
 use mathlib.Core.List.{List, reverse}

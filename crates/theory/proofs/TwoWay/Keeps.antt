@@ -28,8 +28,8 @@ use Rattle.theory.proofs.Course.{Course, PassesIn, ActsIn, passes-by, p
 use Rattle.theory.proofs.Deeds.{deeds}
 use Rattle.theory.proofs.Life.{operation-some, life, acts-new}
 use Rattle.theory.proofs.TwoWay.Tower.{Tower.ground}
-use Rattle.theory.proofs.TwoWay.Sound.{Sound, upper-linked, dead-some}
-use Rattle.theory.proofs.TwoWay.Rows.{Knows, Before, Finds, ReadsLower, reads-of-dead, knows-kept, own-knows}
+use Rattle.theory.proofs.TwoWay.Sound.{upper-linked, dead-some}
+use Rattle.theory.proofs.TwoWay.Rows.{Knows, Finds, ReadsLower, reads-of-dead, knows-kept, own-knows}
 use Rattle.theory.proofs.TwoWay.Steps.{Happens, rests, begins, links, cuts, clears, happens-by}
 use Rattle.theory.proofs.TwoWay.Standing.{SoundAt, rests-sound, begins-sound, links-sound, cuts-sound, clears-sound}
 

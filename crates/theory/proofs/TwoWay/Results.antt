@@ -1,9 +1,8 @@
 -- What an operation on a two-way linked stack took or answered, with what it knows by that: the first W4 on the item of a taker is after its last W2
 -- and not after its own W4, and one that answers empty ended at its last W2. Assumes nothing.
 use mathlib.Core.Path.{_≡_, refl, sym, ap, subst, _∙_}
-use mathlib.Core.Logic.{_≢_, _⊎_, inl, inr}
+use mathlib.Core.Logic.{_≢_}
 use Prim.Native.Nat.{ℕ, zero, suc, _≤_, _<_}
-use mathlib.Core.Bool.{true}
 use native.Mathlib.Omega.{arith}
 use Rattle.job.specs.declared.Kind.the-variants.{TwoWay}
 use Rattle.machine.specs.declared.Event.the-variants.{Moved}
@@ -57,7 +56,7 @@ moved-by c k t (clears o u x) e n = x .event ∙ ap Moved (sym (ap item-of (x .e
 
 module _ (c : Course TwoWay) (k o : ℕ) (op : IsOperation (c .count) o) where
   -- its last W2 is before the first W4 on the item
-  abbrev pub BeforeHere : ℕ → Type 0
+  abbrev BeforeHere : ℕ → Type 0
   BeforeHere t = Before (start (c .log) k o) (first-move (c .log) k t)
 
   abbrev EndedThere : Type 0

@@ -1,27 +1,23 @@
 -- What holds of the memory of a two-way linked stack: the tower is there, every linked and live node is of it, and a dead node has no upper. So a
 -- node without upper that is live is the uppermost; a put links its node on top of the tower, and the tower loses no node but a dead uppermost
 -- one. Assumes nothing.
-use mathlib.Core.Path.{_≡_, refl, sym, ap, subst, _∙_}
+use mathlib.Core.Path.{_≡_, ap, _∙_}
 use mathlib.Core.Logic.{_≢_, _⊎_, inl, inr}
 use Prim.Native.Nat.{ℕ, _≤_}
-use mathlib.Core.Bool.{Bool}
-use mathlib.Core.List.{List, [], _∷_, reverse, reverse-reverse, List·Memᴰ, List·Memᴰ·not-nil, List·Memᴰ·cases-cons, Memᴰ·cast}
-use mathlib.Core.List.List·Memᴰ.{List·Memᴰ·head, List·Memᴰ·tail}
+use mathlib.Core.List.{List, [], reverse, reverse-reverse, List·Memᴰ}
 use native.Mathlib.Omega.{arith}
-use lib.ListN.{length}
+use lib.ListN.{length, length-reverse}
 use Rattle.basics.specs.Choice.{same}
-use Rattle.basics.specs.Maps.{upd}
-use Rattle.basics.proofs.Choice.{split, equal-same, unequal-same}
-use Rattle.basics.proofs.Maps.{upd-here, upd-there, upd-elim}
+use Rattle.basics.proofs.Choice.{split}
 use Rattle.job.specs.declared.Kind.the-variants.{TwoWay}
 use Rattle.machine.specs.Memory.{Memory}
 use Rattle.machine.specs.Effects.{sift}
 use Rattle.machine.specs.Left.{left-in, walk}
 use Rattle.machine.specs.Explained.{IsOperation}
-use Rattle.machine.proofs.Lists.{Distinct, distinct-first, distinct-rest, distinct-at-most, sift-keeps, sift-drops, sift-agrees}
+use Rattle.machine.proofs.Lists.{Distinct, distinct-at-most}
 use Rattle.theory.proofs.Nodes.{IsLinked, end, nodes-walk}
 use Rattle.theory.proofs.Life.{operation-some}
-use Rattle.theory.proofs.TwoWay.Tower.{top-of, Tower, ground, floor, Spot, spot-top, above, tower-kept, tower-down, tower-up, length-up}
+use Rattle.theory.proofs.TwoWay.Tower.{top-of, Tower, Spot, above, tower-down, tower-up}
 
 -- the nodes of a list whose flag is live
 abbrev pub live : (ℕ → ℕ) → List ℕ → List ℕ
@@ -79,7 +75,7 @@ module _ {count : ℕ} {born upper next mark : ℕ → ℕ} {list : List ℕ} (d
 pub left-live : {count : ℕ} {born : ℕ → ℕ} (m : Memory) {list : List ℕ} → Sound count born (m .upper) (m .next) (m .mark) list → left-in TwoWay count m ≡ live (m .mark) list
 unfolding left-in
 left-live {count} m {list} d =
-    let up : walk (m .upper) (m .upper 0) count ≡ reverse list = nodes-walk count (tower-up (d .tower) (d .uppermost)) (omega (arith, few d, length-up list)) in
+    let up : walk (m .upper) (m .upper 0) count ≡ reverse list = nodes-walk count (tower-up (d .tower) (d .uppermost)) (omega (arith, few d, length-reverse list)) in
     ap (λ l. live (m .mark) (reverse l)) up ∙ ap (live (m .mark)) (reverse-reverse list)
 
 -- and a walk down from the uppermost finds the tower

@@ -3,12 +3,10 @@ use mathlib.Core.Path.{_≡_, refl, sym, ap, subst₂, fun-ext, _∙_}
 use mathlib.Core.Logic.{_≢_}
 use Prim.Native.Nat.{ℕ, suc}
 use mathlib.Core.Bool.{false}
-use mathlib.Core.List.{List, [], _∷_}
+use mathlib.Core.List.{List, _∷_}
 use native.Mathlib.Omega.{arith}
-use Rattle.basics.specs.Maps.{upd}
 use Rattle.job.specs.declared.Kind.the-variants.{TwoWay}
 use Rattle.machine.specs.declared.Event.{Event}
-use Rattle.machine.specs.declared.Event.the-variants.{Quiet, Round, Linked, Moved}
 use Rattle.machine.specs.Journal.{is-linked, link}
 use Rattle.machine.specs.Left.{left-in}
 use Rattle.machine.proofs.Stamps.{link-unless, link-other, link-new}

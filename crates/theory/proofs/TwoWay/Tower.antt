@@ -2,11 +2,9 @@
 -- sentinel and a walk down from the uppermost find the same nodes. Assumes nothing.
 use mathlib.Core.Path.{_≡_, refl, sym, ap, subst, _∙_}
 use mathlib.Core.Logic.{_≢_, _⊎_, inl, inr}
-use Prim.Native.Nat.{ℕ, _+_}
+use Prim.Native.Nat.{ℕ}
 use mathlib.Core.List.{List, [], _∷_, reverse, reverseAux, List·Memᴰ, List·Memᴰ·not-nil, List·Memᴰ·cases-cons, Memᴰ·cast}
 use mathlib.Core.List.List·Memᴰ.{List·Memᴰ·head, List·Memᴰ·tail}
-use native.Mathlib.Omega.{arith}
-use lib.ListN.{length}
 use Rattle.machine.proofs.Lists.{Distinct, distinct-first, distinct-rest}
 use Rattle.theory.proofs.Nodes.{Nodes, end, node}
 
@@ -75,11 +73,3 @@ up-onto {upper} {on} (floor {x = x} {l = l} some lower up t) n = up-onto t (subs
 
 pub tower-up : {upper next : ℕ → ℕ} {l : List ℕ} → Tower upper next l → upper (top-of l) ≡ 0 → Nodes upper (upper 0) (reverse l)
 tower-up t z = up-onto t (end z)
-
--- it is as long upward as downward
-length-onto : (l on : List ℕ) → length (reverseAux l on) ≡ length l + length on
-length-onto [] on = omega arith
-length-onto (x ∷ l) on = length-onto l (x ∷ on) ∙ omega arith
-
-pub length-up : (l : List ℕ) → length (reverse l) ≡ length l
-length-up l = length-onto l [] ∙ omega arith
