@@ -24,9 +24,9 @@ use Rattle.machine.proofs.Effected.{round-event}
 use Rattle.machine.proofs.Turns.Locals.{Local}
 use Rattle.theory.proofs.Nodes.{IsLinked}
 use Rattle.theory.proofs.Listing.{initial}
-use Rattle.theory.proofs.Course.{Course, PassesIn, ActsIn, passes-by, passes-event}
+use Rattle.theory.proofs.Course.{Course, PassesIn, ActsIn, passes-event}
 use Rattle.theory.proofs.Deeds.{deeds}
-use Rattle.theory.proofs.Life.{operation-some, life, acts-new}
+use Rattle.theory.proofs.Life.{operation-some, own-or-other, life, acts-new}
 use Rattle.theory.proofs.TwoWay.Tower.{Tower.ground}
 use Rattle.theory.proofs.TwoWay.Sound.{upper-linked, dead-some}
 use Rattle.theory.proofs.TwoWay.Rows.{Knows, Finds, ReadsLower, reads-of-dead, knows-kept, own-knows}
@@ -202,14 +202,6 @@ module _ (c : Course TwoWay) (k : ℕ) (kept : Keeps c k) (step : Happens c k) w
           let at : last (c .log) (suc k) o ≡ suc k = last-new (c .log) k o (a .by) b not-over in
           ((λ z. omega arith), start-new (c .log) k o (a .by) (round-event (c .log (suc k) .event) e) ∙ sym at)
 
-  rows-next : PassesIn c k ⊎ ((o : ℕ) × ActsIn c k o) → (o : ℕ) → IsOperation (c .count) o → KnowsAt c (suc k) o (c .local (suc k) o)
-  rows-next (inl i) o op = rows-of-other o op (λ e. operation-some op (sym e ∙ passes-by i)) (i .locals-kept o (operation-some op))
-  rows-next (inr (q, a)) o op = go (split o q)
-    where
-      go : (o ≡ q) ⊎ (o ≢ q) → KnowsAt c (suc k) o (c .local (suc k) o)
-      go (inl e) = rows-of-actor o (subst (ActsIn c k) (sym e) a)
-      go (inr n) = rows-of-other o op (λ e. n (sym e ∙ a .by)) (a .others-kept o n)
-
   keeps-next : Keeps c (suc k)
   keeps-next =
       record {
@@ -218,7 +210,7 @@ module _ (c : Course TwoWay) (k : ℕ) (kept : Keeps c k) (step : Happens c k) w
         top = top-next step;
         dead-killed = dead-killed-next;
         killed-dead = killed-dead-next;
-        rows = rows-next (c .step k);
+        rows = λ o op. own-or-other c k o (operation-some op) (rows-of-other o op) (rows-of-actor o);
       }
 
 module _ (c : Course TwoWay) where
