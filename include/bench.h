@@ -20,7 +20,7 @@
  *    2  The file's length is 0, over BENCH_FILE or not a multiple of 512. Of a write: the stream is under 6 bytes long.
  *    3  A block's sum differs: the block is damaged.
  *    4  A block's number is not its position: blocks were lost or mixed up.
- *    5  The kind is neither 1, a queue, nor 2, a stack.
+ *    5  The kind is neither 1, a queue, nor 2, a stack, nor 3, a two-way linked stack.
  *    6  The number of processes is not from 1 to 8.
  *    7  The number of operations is not from 1 to 256.
  *    8  The schedule is longer than 16,384 steps.

@@ -26,10 +26,10 @@ fn timed(work: impl FnOnce()) -> Duration {
     began.elapsed()
 }
 
-/// Different full-size jobs of both kinds and three orders.
+/// Different full-size jobs of three kinds and three orders.
 fn job(seed: u64) -> Vec<u8> {
     let order = [Order::Uniform, Order::Lockstep, Order::Crowded];
-    sealed(&shapes::job(1 + (seed % 2) as u8, OPERATIONS, STEPS, &order[(seed / 2 % 3) as usize], seed).stream())
+    sealed(&shapes::job(1 + (seed % 3) as u8, OPERATIONS, STEPS, &order[(seed / 3 % 3) as usize], seed).stream())
 }
 
 fn fresh(folder: &Path) {

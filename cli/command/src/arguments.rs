@@ -7,7 +7,7 @@ const STATUS: &str =
     "Exit status: 0 all is well; 1 a job was refused; 2 wrong use, a wrong text, or something could not be read or written.
 FILE is a job file, or - for standard input. README.md begins with an example, docs/TEXT.md has the form of a job's text.";
 
-/// Replays jobs of puts and takes on a shared lock-free queue or stack and says what must have come of them.
+/// Replays jobs of puts and takes on a shared lock-free queue, stack or two-way linked stack and says what must have come of them.
 #[derive(Parser)]
 #[command(name = "bench", version, after_help = STATUS)]
 pub struct Arguments {

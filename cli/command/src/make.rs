@@ -34,7 +34,7 @@ fn made(out: &Path, job: &Job, written: Result<(), Failure>) -> Result<(), Failu
     let processes = counted(usize::from(job.processes), "process", "processes");
     let operations = counted(job.operations.len(), "operation", "operations");
     let steps = counted(job.schedule.len(), "step", "steps");
-    say(&format!("{}: {}, {processes}, {operations}, {steps}", shown(out), job.kind.name()));
+    say(&format!("{}: {}, {processes}, {operations}, {steps}", shown(out), job.kind.noun()));
     Ok(())
 }
 

@@ -3,6 +3,7 @@
 use crate::status::{Failure, Status};
 use crate::words::{counted, list};
 use crate::{input, output};
+use pigwazet::Kind;
 use pigwazet::report::{Action, Ending, Operation, Run};
 use std::path::Path;
 
@@ -35,11 +36,19 @@ fn no_reading(run: &Run, number: u16) -> String {
     format!("Operation {number} {why}. A reading has the number of its put: {readings}.")
 }
 
+/// The end from which readings are taken, and from which a report lists what is left.
+pub fn end(kind: Kind) -> &'static str {
+    match kind {
+        Kind::Queue => "front",
+        Kind::Stack | Kind::Linked => "top",
+    }
+}
+
 /// The fate of a reading, in sentences; none if it is no put of the run.
 pub fn fate(run: &Run, item: u16) -> Option<Vec<String>> {
     let put = run.operation(item)?;
     let Action::Put(value) = put.action else { return None };
-    let object = run.kind.name();
+    let object = run.kind.noun();
     let by = if put.first.is_some() { "put by" } else { "to be put by" };
     let mut lines = vec![format!("Reading {item}: {value} cm, {by} {}.", operation_told(put))];
     match run.put(item) {
@@ -47,12 +56,8 @@ pub fn fate(run: &Run, item: u16) -> Option<Vec<String>> {
         None => lines.push(format!("It is not in the record: it never came into the {object}.")),
     }
     if let Some(place) = run.left.iter().position(|&left| left == item) {
-        let from = if object == "queue" { "front" } else { "top" };
-        lines.push(format!(
-            "Nobody took it. It is still in the {object}: place {} of {} from the {from}.",
-            place + 1,
-            run.left.len()
-        ));
+        let (place, all, end) = (place + 1, run.left.len(), end(run.kind));
+        lines.push(format!("Nobody took it. It is still in the {object}: place {place} of {all} from the {end}."));
     }
     if let Some(line) = run.taken(item) {
         let takers = takers(run, item);

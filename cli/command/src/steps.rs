@@ -1,12 +1,14 @@
 //! `bench steps`: the run step by step. The steps are the second replayer's, so they are shown only where its report is the proved one.
 
+mod access;
+
 use crate::status::{Failure, Status, say};
 use crate::words::counted;
 use crate::{input, output};
-use pigwazet::Job;
+use pigwazet::{Job, Kind};
 use second_replayer::calls::REPORT;
 use second_replayer::file::{self, WORK};
-use second_replayer::machine::Answer;
+use second_replayer::machine::{Answer, NONE};
 use second_replayer::report;
 use second_replayer::watch::{Cell, Event, Log, Row};
 use std::ops::RangeInclusive;
@@ -69,7 +71,7 @@ pub fn told(job: &Job, log: &Log, op: Option<u16>, range: &RangeInclusive<u16>) 
         let event = events.next_if(|event| event.step == step);
         let asked = op.is_none_or(|op| event.is_some_and(|event| event.operation == op));
         if asked && range.contains(&step) {
-            text += &line(step, *process, event);
+            text += &line(job.kind, step, *process, event);
         }
     }
     text
@@ -79,20 +81,22 @@ fn row(step: &str, process: &str, operation: &str, row: &str, what: &str) -> Str
     format!("{step:>5}  {process:>7}  {operation:>9}  {row:3}  {what}\n")
 }
 
-fn line(step: u16, process: u8, event: Option<&Event>) -> String {
+fn line(kind: Kind, step: u16, process: u8, event: Option<&Event>) -> String {
     let (step, process) = (step.to_string(), process.to_string());
     match event {
-        Some(event) => row(&step, &process, &event.operation.to_string(), &format!("{:?}", event.row), &what(event)),
+        Some(event) => row(&step, &process, &event.operation.to_string(), &format!("{:?}", event.row), &what(kind, event)),
         None => row(&step, &process, "-", "-", "idle: no operation remains"),
     }
 }
 
 /// What a step read or changed, and what came of it.
-fn what(event: &Event) -> String {
-    let mut text = access(event);
-    match (event.row, event.wrote) {
-        (Row::Q3 | Row::P3, Some(own)) => text += &format!("; reading {own} is in"),
-        (Row::T5, Some(item)) => text += &format!("; reading {item} is out"),
+fn what(kind: Kind, event: &Event) -> String {
+    let mut text = access::told(kind, event);
+    match (event.row, event.cell, event.wrote) {
+        (Row::Q3 | Row::P3 | Row::V4, _, Some(own)) => text += &format!("; reading {own} is in"),
+        (Row::T5, _, Some(item)) => text += &format!("; reading {item} is out"),
+        // the first to clear the flag: the cell was none and live
+        (Row::W4, Cell::Whole(item), Some(_)) if event.held == NONE => text += &format!("; reading {item} is out"),
         _ => {}
     }
     match event.answer {
@@ -102,42 +106,6 @@ fn what(event: &Event) -> String {
         None => {}
     }
     text
-}
-
-fn access(event: &Event) -> String {
-    let (cell, held) = (cell(event.cell), content(event.cell, event.held));
-    match (event.aim, event.wrote) {
-        (Some((from, to)), wrote) => {
-            let (from, to) = (content(event.cell, from), content(event.cell, to));
-            let came = if wrote.is_some() { "changed".to_string() } else { format!("not changed, it holds {held}") };
-            format!("sets {cell} from {from} to {to}: {came}")
-        }
-        (None, Some(_)) => {
-            let Cell::Mark(node) = event.cell else { return format!("writes {cell}") };
-            format!("raises {cell}, which was {held}: claims reading {node}")
-        }
-        (None, None) => format!("reads {cell}: {held}"),
-    }
-}
-
-fn cell(cell: Cell) -> String {
-    match cell {
-        Cell::Head => "Head".to_string(),
-        Cell::Tail => "Tail".to_string(),
-        Cell::Top => "Top".to_string(),
-        Cell::Next(node) => format!("node {node}'s next"),
-        Cell::Mark(node) => format!("node {node}'s mark"),
-    }
-}
-
-/// What a cell holds: node 0 is the queue's first node, to which Head and Tail may point; elsewhere 0 is none.
-fn content(cell: Cell, held: u16) -> String {
-    match (cell, held) {
-        (Cell::Mark(_), 0) => "clear".to_string(),
-        (Cell::Mark(_), _) => "raised".to_string(),
-        (Cell::Top | Cell::Next(_), 0) => "none".to_string(),
-        (_, node) => format!("node {node}"),
-    }
 }
 
 #[cfg(test)]

@@ -20,10 +20,19 @@ pub fn counted(number: usize, one: &str, many: &str) -> String {
 
 /// `2`, `2 and 3`, `2, 3 and 4`.
 pub fn list(parts: &[String]) -> String {
+    joined(parts, "and")
+}
+
+/// `2`, `2 or 3`, `2, 3 or 4`.
+pub fn either(parts: &[String]) -> String {
+    joined(parts, "or")
+}
+
+fn joined(parts: &[String], word: &str) -> String {
     match parts {
         [] => String::new(),
         [one] => one.clone(),
-        [start @ .., last] => format!("{} and {last}", start.join(", ")),
+        [start @ .., last] => format!("{} {word} {last}", start.join(", ")),
     }
 }
 
@@ -43,8 +52,9 @@ mod tests {
     }
 
     #[test]
-    fn the_last_of_a_list_has_an_and() {
+    fn the_last_of_a_list_has_an_and_or_an_or() {
         let parts = ["2", "3", "4"].map(String::from);
         assert_eq!([list(&parts[..0]), list(&parts[..1]), list(&parts[..2]), list(&parts)], ["", "2", "2 and 3", "2, 3 and 4"]);
+        assert_eq!([either(&parts[..1]), either(&parts[..2]), either(&parts)], ["2", "2 or 3", "2, 3 or 4"]);
     }
 }

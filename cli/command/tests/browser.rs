@@ -86,6 +86,7 @@ fn every_sample_is_drawn_as_its_report_has_it() {
         let dom = held(&room, &name, &file);
         // process 0 of that job has no operation
         assert!(name != "smallest" || dom.contains("queue · 1 operation by 1 process · "));
+        assert!(name != "linked-help" || (dom.contains("linked stack · 4 operations by ") && dom.contains("(2, top first)")));
     }
 }
 
@@ -102,7 +103,7 @@ fn generated_jobs_are_drawn_as_their_reports_have_them() {
 #[ignore = "needs a browser: tests/cli/run installs it"]
 fn picking_a_reading_marks_its_put_and_its_takers() {
     let room = Room::new("picked");
-    for name in ["listing", "stack-double", "open-take", "flood-hour"] {
+    for name in ["listing", "stack-double", "linked-double", "open-take", "flood-hour"] {
         room.sample(&format!("{name}.job"));
         room.bench(&format!("picture {name}.job")).is(0, "", "html");
         let text = fs::read_to_string(shared::top().join("examples").join(name).with_extension("txt")).unwrap();

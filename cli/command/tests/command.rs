@@ -144,6 +144,16 @@ fn replay_of_one_file_prints_the_report_and_nothing_else() {
 }
 
 #[test]
+fn replay_of_a_sample_prints_its_report() {
+    let room = Room::new("reports-of-samples");
+    for (name, file) in shared::samples() {
+        room.write("card.job", file);
+        let report = fs::read_to_string(shared::top().join("examples").join(name).with_extension("txt")).unwrap();
+        room.bench("replay card.job").is(0, &report, "");
+    }
+}
+
+#[test]
 fn replay_of_several_puts_each_under_its_name() {
     let room = room("several");
     let both = format!("==> listing.job <==\n{LISTING}\n==> smallest.job <==\n{SMALLEST}");

@@ -8,7 +8,7 @@ use shared::{Room, generated, samples, top};
 use std::fs;
 
 /// A sample, a reading, and its fate.
-const FATES: [(&str, u16, &str); 5] = [
+const FATES: [(&str, u16, &str); 7] = [
     (
         "listing",
         1,
@@ -46,6 +46,21 @@ const FATES: [(&str, u16, &str); 5] = [
         "Reading 5: -3277 cm, put by operation 5 of process 0 (steps 17 to 20).\n\
          The record has it coming into the queue at step 19.\n\
          Nobody took it. It is still in the queue: place 3 of 5 from the front.\n",
+    ),
+    (
+        "linked-double",
+        1,
+        "Reading 1: 120 cm, put by operation 1 of process 0 (steps 1 to 5).\n\
+         The record has it coming into the linked stack at step 4.\n\
+         The record has it going out at step 12, to operation 2 of process 1 (steps 6 to 14) and operation 3 of process 2 (steps 9 to 17).\n\
+         A double: the 2 takers overlap from step 9 to step 14.\n",
+    ),
+    (
+        "linked-help",
+        1,
+        "Reading 1: 120 cm, put by operation 1 of process 0 (steps 1 to 27).\n\
+         The record has it coming into the linked stack at step 4.\n\
+         Nobody took it. It is still in the linked stack: place 2 of 2 from the top.\n",
     ),
 ];
 
@@ -85,12 +100,10 @@ fn expected(report: &Report, item: u16) -> Expected {
 }
 
 /// Holds the sentences of a fate against what is expected.
-fn holds(text: &str, expected: &Expected, all_left: usize) {
+fn holds(text: &str, object: &str, expected: &Expected, all_left: usize) {
     match expected.put {
         Some(at) => assert!(text.contains(&format!(" at step {at}.\n")), "{text}"),
-        None => {
-            assert!(text.ends_with("it never came into the queue.") || text.ends_with("it never came into the stack."), "{text}")
-        }
+        None => assert!(text.ends_with(&format!("it never came into the {object}.")), "{text}"),
     }
     assert_eq!(text.contains("Nobody took it. "), expected.left.is_some(), "{text}");
     if let Some(place) = expected.left {
@@ -123,7 +136,7 @@ fn fates_of_generated_jobs_are_those_of_their_reports() {
             let begins = format!("Reading {item}: {value} cm, {by} operation {item} of process {} (", operation.process);
             assert!(text.starts_with(&begins), "seed {seed}: {text}");
             let expected = expected(&apart, item);
-            holds(&text, &expected, apart.left.len());
+            holds(&text, run.kind.noun(), &expected, apart.left.len());
             doubles += usize::from(expected.taken.is_some_and(|(_, takers)| takers.len() > 1));
             kept += usize::from(expected.left.is_some());
             never += usize::from(expected.put.is_none());
@@ -186,6 +199,57 @@ fn steps_of_a_stack_in_words() {
     room.bench("steps smallest.job --from 2 --to 2").tells(0, "\n    2        0          -  -    idle: no operation remains\n");
 }
 
+/// Puts and takes that come in each other's way at every row where they can.
+const CROWDED: &str = "linked
+processes 3
+put 0 500
+put 1 510
+take 2
+put 0 520
+take 1
+take 2
+take 1
+order 0 x 3 1 x 3 0 1 x 4 0
+order 1 x 3 2 x 3 1 2 x 4 1
+order 2 x 3 0 x 3 1 x 3 2 1 0
+order 0 x 5 1 1 2 x 6
+order 1 x 7 2 2 0 x 5
+";
+
+#[test]
+fn steps_of_a_linked_stack_in_words() {
+    let room = Room::new("steps-of-a-linked-stack");
+    room.write("crowded.txt", CROWDED);
+    room.bench("make crowded.txt").is(0, "", "crowded.job: linked stack, 3 processes, 7 operations, 63 steps\n");
+    let out = room.bench("steps crowded.job").out;
+    for line in "    7        0          1  V4   sets node 0's upper from none to node 1: changed; reading 1 is in
+    8        1          2  V4   sets node 0's upper from none to node 2: not changed, it holds node 1
+    9        1          2  V1   reads Top: node 0
+   10        1          2  V2   reads node 0's upper: node 1
+   11        1          2  V6   sets Top from node 0 to node 1: changed
+   12        0          1  V5   sets Top from node 0 to node 1: not changed, it holds node 1; ends, done
+   15        1          2  V3   reads node 1's flag: live
+   20        2          3  W4   does not clear node 1's flag: node 1's upper is node 2
+   23        2          3  W8   sets Top from node 1 to node 2: changed
+   34        2          3  W4   clears node 2's flag, which was live: claims reading 2; reading 2 is out
+   35        1          5  W4   clears node 2's flag, which was cleared: claims reading 2
+   36        0          4  V4   sets node 2's upper from none to node 4: not changed, node 2's flag is cleared
+   39        0          4  V3   reads node 2's flag: cleared
+   40        0          4  V7   sets node 1's upper from node 2 to none: changed
+   41        0          4  V8   sets Top from node 2 to node 1: changed
+   42        1          5  W5   sets node 1's upper from node 2 to none: not changed, it holds none
+   43        1          5  W6   sets Top from node 2 to node 1: not changed, it holds node 1; ends with reading 2
+   53        1          7  W7   sets node 0's upper from node 1 to none: changed
+   54        1          7  W9   sets Top from node 1 to node 0: changed
+   55        1          7  W1   reads Top: node 0
+   56        1          7  W2   reads node 0's upper: none; ends, empty
+   63        0          4  V5   sets Top from node 0 to node 4: changed; ends, done"
+        .lines()
+    {
+        assert!(out.lines().any(|other| other == line), "not among the steps: {line}\n{out}");
+    }
+}
+
 /// The rows that docs/STEPS.md lays out under a job: its lines `process` and `row`.
 #[test]
 fn rows_are_those_that_the_page_about_steps_shows() {
@@ -209,7 +273,7 @@ fn rows_are_those_that_the_page_about_steps_shows() {
         assert_eq!((column(1), rows), (words("process "), words("row ")), "{name}");
         shown += 1;
     }
-    assert!(shown >= 7, "{shown}");
+    assert!(shown >= 10, "{shown}");
 }
 
 #[test]

@@ -4,6 +4,7 @@ mod shared;
 
 use bench_command::text::{parse, print};
 use pigwazet::limits::{OPERATIONS, STEPS};
+use pigwazet::{Action, Job, Kind, Operation};
 use rayon::prelude::*;
 use shared::{Room, generated, samples};
 
@@ -48,6 +49,18 @@ fn the_text_of_the_papers_is_the_listing() {
 }
 
 #[test]
+fn a_linked_stack_has_a_word_of_its_own() {
+    let text = "linked\nprocesses 2\n\nput 0 500         # operation 1\ntake 1            # operation 2\n\norder 0 x 5 1 x 6  # steps 1 to 11\n";
+    let job = parse::job(text).unwrap();
+    let put = Operation { process: 0, action: Action::Put(500) };
+    let take = Operation { process: 1, action: Action::Take };
+    let schedule = [[0; 5].as_slice(), &[1; 6]].concat();
+    assert_eq!(job, Job { kind: Kind::Linked, processes: 2, operations: vec![put, take], schedule });
+    assert_eq!(print::job(&job), text);
+    assert_eq!(parse::job("").unwrap_err()[0].wrong.allowed, "a line queue, stack or linked");
+}
+
+#[test]
 fn a_text_at_the_limits_is_a_job_and_one_past_them_is_not() {
     let puts = |count: usize| "put 7 -32768\n".repeat(count);
     let text = |operations: usize, steps: usize| format!("stack\nprocesses 8\n{}order 7 x {steps}\n", puts(operations));
@@ -71,9 +84,9 @@ fn what_was_found_and_what_is_allowed() {
     let end = "the end of the line";
     let process = "a process, 0 to 2";
     for (line, found, allowed) in [
-        ("pit 0 500", "'pit'", "a line that begins with queue, stack, processes, put, take or order"),
-        ("Take 1", "'Take'", "a line that begins with queue, stack, processes, put, take or order"),
-        ("linked", "'linked'", "a line that begins with queue, stack, processes, put, take or order"),
+        ("pit 0 500", "'pit'", "a line that begins with queue, stack, linked, processes, put, take or order"),
+        ("Take 1", "'Take'", "a line that begins with queue, stack, linked, processes, put, take or order"),
+        ("bank", "'bank'", "a line that begins with queue, stack, linked, processes, put, take or order"),
         ("put 3 500", "'3'", process),
         ("put -1 500", "'-1'", process),
         ("put +1 500", "'+1'", process),
@@ -90,11 +103,12 @@ fn what_was_found_and_what_is_allowed() {
         ("order 0 x 0", "'0'", "how often, 1 to 16,384"),
         ("order 0 x4", "'x4'", "a process, 0 to 2, or x and how often"),
         ("order 0 x 4 x 4", "'x'", process),
-        ("put\u{a0}0 500", "'put\u{a0}0'", "a line that begins with queue, stack, processes, put, take or order"),
+        ("put\u{a0}0 500", "'put\u{a0}0'", "a line that begins with queue, stack, linked, processes, put, take or order"),
         ("order x 4", "'x'", process),
         ("order drop 1", "'drop'", process),
         ("order 99999999999999999999", "'99999999999999999999'", process),
         ("stack", "a second object, 'stack'", "one object"),
+        ("linked", "a second object, 'linked'", "one object"),
         ("processes 3", "a second line of processes", "one"),
     ] {
         let faults = parse::job(&with(line)).unwrap_err();

@@ -110,8 +110,11 @@ fn told(room: &Room, file: Vec<u8>, number: u32, place: &str, found: &str, remed
 #[test]
 fn an_accepted_a_missing_and_an_empty_file() {
     let room = Room::new("why");
-    room.write("card.job", good());
-    room.bench("why card.job").is(0, "card.job: accepted, nothing is wrong with it\n", "");
+    // the same operations and steps make a job of each kind
+    for kind in 1..=3 {
+        room.write("card.job", changed(&[(0, kind)]));
+        room.bench("why card.job").is(0, "card.job: accepted, nothing is wrong with it\n", "");
+    }
     room.bench("why missing.job").fails("missing.job could not be read: ");
     room.bench_with("why -", b"").tells(1, "standard input: refused 2\n");
 }
@@ -163,7 +166,10 @@ fn blocks() {
 fn fields_of_the_header() {
     let room = Room::new("why-header");
     let field = |name: &str, byte: usize| format!("the header's {name}, at byte {byte} of the file (block 0, byte {byte})");
-    told(&room, changed(&[(0, 9)]), 5, &field("kind", 2), "9", "the kind is 1 for a queue, 2 for a stack.");
+    for kind in [0, 4, 9] {
+        let remedy = "the kind is 1 for a queue, 2 for a stack, 3 for a linked stack.";
+        told(&room, changed(&[(0, kind)]), 5, &field("kind", 2), &kind.to_string(), remedy);
+    }
     told(&room, changed(&[(1, 0)]), 6, &field("number of processes", 3), "0", "a job has 1 to 8 processes.");
     told(&room, changed(&[(2, 2), (3, 0)]), 7, &field("number of operations", 4), "512", "a job has 1 to 256 operations");
     told(&room, changed(&[(4, 255), (5, 255)]), 8, &field("number of steps", 6), "65,535", "a job has at most 16,384 steps");

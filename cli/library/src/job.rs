@@ -7,18 +7,36 @@ use crate::limits::{HEADER, RECORD};
 pub enum Kind {
     Queue,
     Stack,
+    /// The two-way linked stack.
+    Linked,
 }
 
-/// Every kind with its number in a file and its name in reports and texts.
-const KINDS: [(Kind, u8, &str); 2] = [(Kind::Queue, 1, "queue"), (Kind::Stack, 2, "stack")];
+struct Entry {
+    kind: Kind,
+    number: u8,
+    name: &'static str,
+    noun: &'static str,
+}
+
+const KINDS: [Entry; 3] = [
+    Entry { kind: Kind::Queue, number: 1, name: "queue", noun: "queue" },
+    Entry { kind: Kind::Stack, number: 2, name: "stack", noun: "stack" },
+    Entry { kind: Kind::Linked, number: 3, name: "linked", noun: "linked stack" },
+];
 
 impl Kind {
     pub fn all() -> impl Iterator<Item = Kind> {
-        KINDS.iter().map(|&(kind, ..)| kind)
+        KINDS.iter().map(|entry| entry.kind)
     }
 
+    /// Its name in reports and texts.
     pub fn name(self) -> &'static str {
-        self.entry().2
+        self.entry().name
+    }
+
+    /// Its name in sentences.
+    pub fn noun(self) -> &'static str {
+        self.entry().noun
     }
 
     pub fn named(name: &str) -> Option<Kind> {
@@ -27,15 +45,15 @@ impl Kind {
 
     /// Its number in a file.
     pub fn number(self) -> u8 {
-        self.entry().1
+        self.entry().number
     }
 
     pub fn numbered(number: u8) -> Option<Kind> {
         Kind::all().find(|kind| kind.number() == number)
     }
 
-    fn entry(self) -> &'static (Kind, u8, &'static str) {
-        KINDS.iter().find(|(kind, ..)| *kind == self).expect("every kind has an entry")
+    fn entry(self) -> &'static Entry {
+        KINDS.iter().find(|entry| entry.kind == self).expect("every kind has an entry")
     }
 }
 

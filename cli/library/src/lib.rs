@@ -1,4 +1,4 @@
-//! The replay bench for queues and stacks with multiplicity, for Rust callers.
+//! The replay bench for queues, stacks and two-way linked stacks with multiplicity, for Rust callers.
 //!
 //! Three calls, each one call of the proved library (`include/bench.h`):
 //!

@@ -24,7 +24,7 @@ impl Refusal {
             2 => "the file's length is 0, over 17,920 bytes or not a multiple of 512",
             3 => "a block's sum differs: the block is damaged",
             4 => "a block's number is not its position: blocks were lost or mixed up",
-            5 => "the kind is neither 1, a queue, nor 2, a stack",
+            5 => "the kind is neither 1, a queue, nor 2, a stack, nor 3, a linked stack",
             6 => "the number of processes is not from 1 to 8",
             7 => "the number of operations is not from 1 to 256",
             8 => "the schedule is longer than 16,384 steps",

@@ -43,7 +43,7 @@ fn a_process_that_the_job_has_not_is_refused() {
 #[test]
 fn every_kind_has_its_name_and_its_number() {
     let kinds: Vec<(u8, &str)> = Kind::all().map(|kind| (kind.number(), kind.name())).collect();
-    assert_eq!(kinds, [(1, "queue"), (2, "stack")]);
+    assert_eq!(kinds, [(1, "queue"), (2, "stack"), (3, "linked")]);
     for kind in Kind::all() {
         let mut job = job(1, 1, 1);
         job.kind = kind;

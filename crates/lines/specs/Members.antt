@@ -1,15 +1,15 @@
 -- The takers of an item and the items that are left, as the rows that hold a run's outcome say them.
-use Prim.Native.Nat.{ℕ, _+_, _≤_, _<_}
+use Prim.Native.Nat.{ℕ, zero, suc, _+_, _≤_, _<_}
 use mathlib.Core.Bool.{Bool, true}
 use mathlib.Core.List.{List}
-use Rattle.basics.specs.Choice.{same}
+use Rattle.basics.specs.Choice.{pick, same}
 use Rattle.basics.specs.Maps.{at}
 use Rattle.rows.specs.Rows.{column, HasRows}
 use Rattle.rows.specs.Operations.{HasOps, cells}
 use Rattle.rows.specs.Operations.Column.{Taken}
-use Rattle.rows.specs.Nodes.{HasNodes, nexts, marks}
+use Rattle.rows.specs.Nodes.{HasNodes, nexts, marks, uppers}
 use Rattle.job.specs.declared.Kind.{Kind}
-use Rattle.job.specs.declared.Kind.the-variants.{Queue, Stack}
+use Rattle.job.specs.declared.Kind.the-variants.{Queue, Stack, TwoWay}
 use Rattle.machine.specs.Effects.{numbers, sift}
 use Rattle.machine.specs.Left.{walk}
 
@@ -46,15 +46,25 @@ pub record Bounds (ops bounds : List ℕ) (count : ℕ) : Type 0 where
   pub to : (o : ℕ) → 1 ≤ o → o ≤ count → o + beyonds bounds (cells ops Taken o) ≤ count
   pub small : (i : ℕ) → at bounds i ≤ count
 
--- the node from which the items that are left are walked: "for a queue the nodes linked behind Head […]; for a stack […] from Top down"
-unfoldable pub first-node : Kind → List ℕ → ℕ → ℕ → ℕ
-first-node Queue nodes head top = nexts nodes head
-first-node Stack nodes head top = top
+-- the uppermost node from node i up through the uppers, by at most `count` of them
+unfoldable pub climb : (ℕ → ℕ) → ℕ → ℕ → ℕ
+climb upper i zero = i
+climb upper i (suc count) =
+    let higher : ℕ = climb upper (upper i) count in
+    pick (same (upper i) 0) i higher
 
--- is a node that is reached still there, by its mark? "for a stack the unmarked nodes"
+-- the node from which the items that are left are walked: "for a queue the nodes linked behind Head […]; for a stack […] from Top down";
+-- document 02, request 3: "the live nodes upward from the sentinel, listed top first", so from the uppermost down
+unfoldable pub first-node : Kind → List ℕ → ℕ → ℕ → ℕ → ℕ
+first-node Queue nodes head top count = nexts nodes head
+first-node Stack nodes head top count = top
+first-node TwoWay nodes head top count = climb (uppers nodes) 0 count
+
+-- is a node that is reached still there, by its mark? "for a stack the unmarked nodes"; "the live nodes"
 unfoldable pub stays : Kind → ℕ → Bool
 stays Queue mark = true
 stays Stack mark = same mark 0
+stays TwoWay mark = same mark 0
 
 -- the items that are left, from a node on
 unfoldable pub left-from : Kind → List ℕ → ℕ → ℕ → List ℕ
@@ -65,3 +75,8 @@ pub record NodesThere (nodes : List ℕ) (count node : ℕ) : Type 0 where
   pub has-nodes : HasNodes count nodes
   pub within : (i : ℕ) → nexts nodes i ≤ count
   pub first : node ≤ count
+
+-- the nodes 0 to `count` have rows, and every upper is one of them
+pub record UppersThere (nodes : List ℕ) (count : ℕ) : Type 0 where
+  pub has-nodes : HasNodes count nodes
+  pub within : (i : ℕ) → uppers nodes i ≤ count

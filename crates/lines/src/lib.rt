@@ -51,6 +51,7 @@ pub fn object_line(out: &mut [u8], at: usize, kind: Kind) -> usize
     match kind {
         Kind::Queue => put_bytes(out, at, b"object queue\n"),
         Kind::Stack => put_bytes(out, at, b"object stack\n"),
+        Kind::TwoWay => put_bytes(out, at, b"object linked\n"),
     }
 }
 
@@ -261,6 +262,7 @@ fn stays(object: Kind, nodes: &[u16], node: u16) -> bool
     match object {
         Kind::Queue => true,
         Kind::Stack => cell(nodes, rows::NODES, node, rows::MARK) == 0,
+        Kind::TwoWay => cell(nodes, rows::NODES, node, rows::MARK) == 0,
     }
 }
 

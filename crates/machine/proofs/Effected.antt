@@ -75,7 +75,7 @@ linked-event (Moved n) t = absurd (true≢false (sym t))
 linked-event (Late n) t = absurd (true≢false (sym t))
 linked-event (Raised n) t = absurd (true≢false (sym t))
 
-round-event : (e : Event) → is-round e ≡ true → e ≡ Round
+pub round-event : (e : Event) → is-round e ≡ true → e ≡ Round
 unfolding is-round
 round-event Quiet t = absurd (true≢false (sym t))
 round-event Round t = refl

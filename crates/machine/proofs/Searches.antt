@@ -119,12 +119,20 @@ module _ (f : ℕ → Bool) where
       earliest-stays (suc s) k high (λ y. (let c : suc s ≡ 0 = sym here ∙ y in omega arith)) ∙ here
 
   -- a search that fails up to k and succeeds up to l finds a step after k
-  pub earliest-after : (k l : ℕ) → earliest f k ≡ 0 → earliest f l ≢ 0 → k < earliest f l
+  earliest-after : (k l : ℕ) → earliest f k ≡ 0 → earliest f l ≢ 0 → k < earliest f l
   earliest-after k l z n = go (compare (earliest f l) k)
     where
       go : (earliest f l ≤ k) ⊎ (k < earliest f l) → k < earliest f l
       go (inl h) = absurd (true≢false (sym (earliest-meets l n) ∙ earliest-none k (earliest f l) z (omega arith) h))
       go (inr h) = h
+
+  -- a step that is before it stays before it
+  pub earliest-later : (k s : ℕ) → s ≤ k → (earliest f k ≢ 0 → s < earliest f k) → earliest f (suc k) ≢ 0 → s < earliest f (suc k)
+  earliest-later k s low h n = go (split (earliest f k) 0)
+    where
+      go : (earliest f k ≡ 0) ⊎ (earliest f k ≢ 0) → s < earliest f (suc k)
+      go (inl z) = omega (arith, earliest-after k (suc k) z n)
+      go (inr m) = omega (arith, h m, earliest-stays k (suc k) (omega arith) m)
 
   pub latest-le : (k : ℕ) → latest f k ≤ k
   latest-le zero = omega (arith, latest-zero)

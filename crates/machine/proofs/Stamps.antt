@@ -2,7 +2,7 @@
 -- last and answer, and the first move of Head to an item. Assumes nothing.
 use mathlib.Core.Path.{_≡_, ap, _∙_}
 use mathlib.Core.Logic.{_≢_}
-use Prim.Native.Nat.{ℕ, suc, _≤_}
+use Prim.Native.Nat.{ℕ, suc, _≤_, _<_}
 use mathlib.Core.Bool.{Bool, true, false, not, _&&_, and-false}
 use Rattle.basics.specs.Choice.{same}
 use Rattle.basics.proofs.Choice.{equal-same, unequal-same}
@@ -10,7 +10,7 @@ use Rattle.machine.specs.declared.Event.the-variants.{Round, Linked, Mov
 use Rattle.machine.specs.Notes.{Answer, Note, is-answer, idle}
 use Rattle.machine.specs.Journal.{is-round, is-linked, item-of, moved-to, made, begins-round, links, joins, ends, first, last, answer, start, link, join, taken}
 use Rattle.machine.specs.Effects.{first-move}
-use Rattle.machine.proofs.Searches.{earliest-zero, earliest-kept, earliest-new, earliest-stays, earliest-le, latest-zero, latest-kept, latest-new, latest-le}
+use Rattle.machine.proofs.Searches.{earliest-zero, earliest-kept, earliest-new, earliest-stays, earliest-least, earliest-later, earliest-le, latest-zero, latest-kept, latest-new, latest-le}
 
 -- a step of operation o that meets a test
 unfoldable own-step : (ℕ → Note) → (Note → Bool) → ℕ → ℕ → Bool
@@ -212,6 +212,16 @@ module _ (log : ℕ → Note) (item : ℕ) where
   pub first-move-new : (k : ℕ) → log (suc k) .event ≡ Moved item → first-move log k item ≡ 0 → first-move log (suc k) item ≡ suc k
   unfolding first-move moves-to moved-to
   first-move-new k e z = earliest-new moves-to k z (equal-same (ap moved-to e))
+
+  -- no step that moved to it is before it
+  pub first-move-least : (k s : ℕ) → log s .event ≡ Moved item → 1 ≤ s → s ≤ k → (first-move log k item ≢ 0) × (first-move log k item ≤ s)
+  unfolding first-move moves-to moved-to
+  first-move-least k s e low high = earliest-least moves-to k s (equal-same (ap moved-to e)) low high
+
+  -- a step that is before it stays before it
+  pub first-move-later : (k s : ℕ) → s ≤ k → (first-move log k item ≢ 0 → s < first-move log k item) → first-move log (suc k) item ≢ 0 → s < first-move log (suc k) item
+  unfolding first-move moves-to
+  first-move-later k s low h n = earliest-later moves-to k s low h n
 
   pub first-move-stays : (k l : ℕ) → k ≤ l → first-move log k item ≢ 0 → first-move log l item ≡ first-move log k item
   unfolding first-move moves-to

@@ -2,5 +2,6 @@
 pub mod Facts
 pub mod Operations
 pub mod Found
+pub mod Climb
 pub mod Left
 pub mod Whole

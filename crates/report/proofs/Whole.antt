@@ -15,18 +15,24 @@ use Rattle.machine.specs.declared.Finish.{Finish}
 use Rattle.machine.specs.Record.{Recorded, the-record}
 use Rattle.wording.specs.Report.{object-line, operation-lines, record-lines, left-line, report}
 use Rattle.journal.specs.Journal.{Agrees}
-use Rattle.lines.specs.Members.{first-node, left-from, NodesThere}
+use Rattle.lines.specs.Members.{first-node, left-from, NodesThere, UppersThere}
 use Rattle.report.specs.Found.{found-lines, Within}
 use Rattle.report.specs.Reported.{Leaves, Reported}
 use Rattle.report.proofs.Facts.{all-lines-to-reach}
 use Rattle.report.proofs.Found.{maker-within, lines-held}
 use Rattle.report.proofs.Operations.{item-in-range}
-use Rattle.report.proofs.Left.{head-within, nodes-held, left-held}
+use Rattle.report.proofs.Left.{head-within, nodes-held, uppers-held, left-held}
 
 -- where the items that are left begin has a row
 pub head-there : {j : Job} {h : Heading} {ops by nodes : List ℕ} {end : Finish} → Leaves j h ops by nodes end → HasNodes (end .head) nodes
 head-there {j} {h} {nodes} {end} l =
     omega (arith, head-within j (h .steps) (end .head) (end .tail) (end .top) nodes (l .memory), ap (λ (x : Heading). x .count) (l .heading), l .has-nodes)
+
+-- and so has every node on the way up from the sentinel
+pub uppers-there : {j : Job} {h : Heading} {ops by nodes : List ℕ} {end : Finish} → Leaves j h ops by nodes end → UppersThere nodes (h .count)
+uppers-there {j} {h} {nodes} {end} l =
+    let count : h .count ≡ j .count = ap (λ (x : Heading). x .count) (l .heading) in
+    subst (UppersThere nodes) (sym count) (uppers-held j (h .steps) (end .head) (end .tail) (end .top) nodes (l .memory) (omega (arith, count, l .has-nodes)))
 
 -- what the parts of a report ask, and that they are the whole in their order
 pub record Parts (j : Job) (h : Heading) (ops by nodes : List ℕ) (reach node : ℕ) : Type 0 where
@@ -37,7 +43,7 @@ pub record Parts (j : Job) (h : Heading) (ops by nodes : List ℕ) (reach node :
   pub whole : object-line (h .object) ++ operation-lines j (j .steps) (h .count) ++ record-lines (found-lines (cells ops) (at by) (h .count) reach) ++ left-line (left-from (h .object) nodes node (h .count)) ≡ report j
 
 -- of the job's own heading
-parts-of-job : (j : Job) {ops by nodes : List ℕ} {end : Finish} → Leaves j (heading-of j) ops by nodes end → Parts j (heading-of j) ops by nodes (end .reach .0) (first-node (j .object) nodes (end .head) (end .top))
+parts-of-job : (j : Job) {ops by nodes : List ℕ} {end : Finish} → Leaves j (heading-of j) ops by nodes end → Parts j (heading-of j) ops by nodes (end .reach .0) (first-node (j .object) nodes (end .head) (end .top) (j .count))
 unfolding report the-record
 parts-of-job j {ops} {by} {nodes} {end} l =
     record {
@@ -56,10 +62,10 @@ parts-of-job j {ops} {by} {nodes} {end} l =
           (left-held j (j .steps) (end .head) (end .tail) (end .top) nodes (l .memory));
     }
 
-pub parts : {j : Job} {h : Heading} {ops by nodes : List ℕ} {end : Finish} {node : ℕ} → Leaves j h ops by nodes end → node ≡ first-node (h .object) nodes (end .head) (end .top) → Parts j h ops by nodes (end .reach .0) node
+pub parts : {j : Job} {h : Heading} {ops by nodes : List ℕ} {end : Finish} {node : ℕ} → Leaves j h ops by nodes end → node ≡ first-node (h .object) nodes (end .head) (end .top) (h .count) → Parts j h ops by nodes (end .reach .0) node
 parts {j} {h} {ops} {by} {nodes} {end} l first =
     subst (Parts j h ops by nodes (end .reach .0)) (sym first)
-    (subst (λ (x : Heading). Parts j x ops by nodes (end .reach .0) (first-node (x .object) nodes (end .head) (end .top))) (sym (l .heading)) (parts-of-job j (subst (λ (x : Heading). Leaves j x ops by nodes end) (l .heading) l)))
+    (subst (λ (x : Heading). Parts j x ops by nodes (end .reach .0) (first-node (x .object) nodes (end .head) (end .top) (x .count))) (sym (l .heading)) (parts-of-job j (subst (λ (x : Heading). Leaves j x ops by nodes end) (l .heading) l)))
 
 pub reported : {before after bytes : List ℕ} {told : ℕ} → Wrote before after 0 told bytes → Reported before after told bytes
 reported {bytes} w = record { writes = w .lays; tells = w .behind ∙ zero-add (length bytes) }

@@ -17,7 +17,7 @@ unfoldable pub here : ℕ → ℕ → Found → Found
 here own s f = pick (same own s) f Nothing
 
 -- what stands at step s, made by operation o, 0 if it was idle: "Put: its changing Q3 or P3." A take: the line of its item. "Empty: its
--- last T1, or the R1 that read none."
+-- last T1, or the R1 that read none." Document 02, request 3: "at the changing V4, at W2 for empty"
 unfoldable pub found : Cells → ℕ → Operation → Found
 found c s o =
     let empty : Found = pick (same (c Last (o .0)) 0) Nothing (here (c Start (o .0)) s (Empty o)) in

@@ -16,7 +16,7 @@ ghost use mathlib.Core.Path.{_≡_};
 ghost use Prim.Native.Nat.{_+_, _≤_, _<_};
 ghost use lib.ListN.{length};
 ghost use Rattle.basics.specs.Maps as Maps;
-ghost use Rattle.rows.specs.Nodes.{HasNodes};
+ghost use Rattle.rows.specs.Nodes.{HasNodes, uppers};
 ghost use Rattle.rows.specs.Operations.{HasOps, cells};
 ghost use Rattle.rows.specs.Operations.Column.{Taken};
 ghost use Rattle.text.specs.Laid.{Wrote};
@@ -24,7 +24,7 @@ ghost use Rattle.job.specs.Limits.{field};
 ghost use Rattle.job.specs.Stream.{stream-length};
 ghost use Rattle.job.specs.Job.{job-of};
 ghost use Rattle.journal.specs.Journal.{Agrees};
-ghost use Rattle.lines.specs.Members.{Bounds, «first-node»};
+ghost use Rattle.lines.specs.Members.{Bounds, climb, «first-node», UppersThere};
 ghost use Rattle.wording.specs.Report.{operation-lines, record-lines, report};
 ghost use Rattle.report.specs.Found.{found, found-lines, Within};
 ghost use Rattle.report.specs.Reported.{Leaves, Reported};
@@ -118,14 +118,33 @@ fn record_lines(
     step_lines(out, at, ops, by, &bounds, count, reach)
 }
 
+// The uppermost of the nodes that stand on the sentinel, or the sentinel itself.
+fn uppermost(nodes: &[u16], count: u16) -> u16
+    requires { ⌜ UppersThere (now nodes) count ⌝ }
+    ensures { λ r. ⌜ r ≡ climb (uppers (now (nodes .entry))) 0 count ⌝ }
+{
+    let mut i: u16 = 0;
+    let mut climbed: u16 = 0;
+    while climbed < count {
+        let upper = cell(nodes, rows::NODES, i, rows::UPPER);
+        if upper == 0 {
+            return i;
+        }
+        i = upper;
+        climbed += 1;
+    }
+    i
+}
+
 // The node from which the items that are left are walked.
-fn first_node(object: Kind, nodes: &[u16], head: u16, top: u16) -> u16
-    requires { ⌜ HasNodes head (now nodes) ⌝ }
-    ensures { λ r. ⌜ r ≡ first-node object (now (nodes .entry)) head top ⌝ }
+fn first_node(object: Kind, nodes: &[u16], head: u16, top: u16, count: u16) -> u16
+    requires { ⌜ HasNodes head (now nodes) × UppersThere (now nodes) count ⌝ }
+    ensures { λ r. ⌜ r ≡ first-node object (now (nodes .entry)) head top count ⌝ }
 {
     match object {
         Kind::Queue => cell(nodes, rows::NODES, head, rows::NEXT),
         Kind::Stack => top,
+        Kind::TwoWay => uppermost(nodes, count),
     }
 }
 
@@ -144,7 +163,7 @@ pub fn write_report(
 {
     let object = h.object;
     let reach = end.reach;
-    let node = first_node(object, nodes, end.head, end.top);
+    let node = first_node(object, nodes, end.head, end.top, h.count);
     let place = object_line(out, 0, object);
     let place = operation_lines(out, place, stream, ops, h.count);
     let place = record_lines(out, place, ops, by, h.count, reach);

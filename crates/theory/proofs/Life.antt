@@ -40,18 +40,24 @@ pub record Moves {kind : Kind} (c : Course kind) (k o : ℕ) : Type 0 where
   pub action : puts before ≡ c .is-put o
 
 module _ {kind : Kind} (c : Course kind) where
+  -- a step is an operation's own, or leaves it where it is
+  pub own-or-other : (k o : ℕ) → o ≢ 0 → {P : Type 0} → (c .log (suc k) .by ≢ o → c .local (suc k) o ≡ c .local k o → P) → (ActsIn c k o → P) → P
+  own-or-other k o some {P} other own = by-step (c .step k)
+    where
+      by-actor : (q : ℕ) → ActsIn c k q → (q ≡ o) ⊎ (q ≢ o) → P
+      by-actor q a (inl e) = own (subst (ActsIn c k) e a)
+      by-actor q a (inr n) = other (λ e. n (sym (a .by) ∙ e)) (a .others-kept o (λ e. n (sym e)))
+
+      by-step : PassesIn c k ⊎ ((q : ℕ) × ActsIn c k q) → P
+      by-step (inl i) = other (λ e. some (sym e ∙ passes-by i)) (i .locals-kept o some)
+      by-step (inr a) = by-actor (a .0) (a .1) (split (a .0) o)
+
   -- what holds of an operation at first, and is kept by the steps of others and by its own, holds after any number of steps
   each-step : (o : ℕ) → o ≢ 0 → (P : ℕ → Type 0) → P 0 → ((k : ℕ) → c .log (suc k) .by ≢ o → c .local (suc k) o ≡ c .local k o → P k → P (suc k)) → ((k : ℕ) → ActsIn c k o → P k → P (suc k)) → (k : ℕ) → P k
   each-step o some P at-first others own zero = at-first
-  each-step o some P at-first others own (suc k) = by-step (c .step k) (each-step o some P at-first others own k)
-    where
-      by-actor : (q : ℕ) → ActsIn c k q → (q ≡ o) ⊎ (q ≢ o) → P k → P (suc k)
-      by-actor q a (inl e) p = own k (subst (ActsIn c k) e a) p
-      by-actor q a (inr n) p = others k (λ e. n (sym (a .by) ∙ e)) (a .others-kept o (λ e. n (sym e))) p
-
-      by-step : PassesIn c k ⊎ ((q : ℕ) × ActsIn c k q) → P k → P (suc k)
-      by-step (inl i) p = others k (λ e. some (sym e ∙ passes-by i)) (i .locals-kept o some) p
-      by-step (inr a) p = by-actor (a .0) (a .1) (split (a .0) o) p
+  each-step o some P at-first others own (suc k) =
+      let before : P k = each-step o some P at-first others own k in
+      own-or-other k o some (λ n l. others k n l before) (λ a. own k a before)
 
   pub life : (k o : ℕ) → IsOperation (c .count) o → Lives kind (c .is-put o) (c .local k o) (deeds (c .log) k o)
   life k o op =

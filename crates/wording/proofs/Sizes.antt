@@ -1,4 +1,4 @@
--- How long the report is: at most 22 bytes and 102 for each operation, if numbers have the digits that an accepted job's have. Assumes
+-- How long the report is: at most 23 bytes and 102 for each operation, if numbers have the digits that an accepted job's have. Assumes
 -- nothing.
 use mathlib.Core.Path.{_≡_, refl, subst}
 use mathlib.Core.Logic.{_≢_}
@@ -13,7 +13,7 @@ use Rattle.basics.proofs.Text.{decimal-length}
 use Rattle.stage.specs.Printed.{stage-text}
 use Rattle.stage.proofs.Printing.{stage-length}
 use Rattle.job.specs.declared.Kind.{Kind}
-use Rattle.job.specs.declared.Kind.the-variants.{Queue, Stack}
+use Rattle.job.specs.declared.Kind.the-variants.{Queue, Stack, TwoWay}
 use Rattle.job.specs.Job.{Job}
 use Rattle.machine.specs.Multiplicity.{Line}
 use Rattle.machine.specs.Multiplicity.Line.{put, takes, empty}
@@ -45,10 +45,11 @@ spaced-length [] h = omega arith
 spaced-length (x ∷ l) h =
     omega (arith, length-append (decimal x) (spaced l), decimal-length 2 x (h x (List·Memᴰ·head refl)), spaced-length l (λ y m. h y (List·Memᴰ·tail m)))
 
-object-length : (object : Kind) → length (object-line object) ≡ 13
+object-length : (object : Kind) → length (object-line object) ≤ 14
 unfolding object-line text
-object-length Queue = refl
-object-length Stack = refl
+object-length Queue = omega arith
+object-length Stack = omega arith
+object-length TwoWay = omega arith
 
 module _ (j : Job) (fits : Fits j) where
   operation-length : (o : ℕ) → IsOperation (j .count) o → length (decimal o) ≤ 3
@@ -133,11 +134,11 @@ module _ (j : Job) (fits : Fits j) where
     left-line-length =
         simp length-append (omega (arith, left-count j (j .steps) ex, decimal-length 2 (length (left j (j .steps))) (omega (arith, left-count j (j .steps) ex, fits .operations)), spaced-length (left j (j .steps)) (λ x m. omega (arith, fits .operations, left-operation j (j .steps) ex x m))))
 
-    report-length : length (report j) ≤ 22 + 102 * j .count
+    report-length : length (report j) ≤ 23 + 102 * j .count
     unfolding report
     report-length =
         simp length-append (omega (arith, object-length (j .object), operation-lines-length (j .count) (omega arith), record-lines-length (the-record j (j .steps)) (λ r m. m), members-count j (j .steps) ex, left-line-length))
 
 -- the report of any job with such numbers
-pub report-bounded : (j : Job) → Fits j → length (report j) ≤ 22 + 102 * j .count
+pub report-bounded : (j : Job) → Fits j → length (report j) ≤ 23 + 102 * j .count
 report-bounded j fits = report-length j fits (explained j (j .steps))

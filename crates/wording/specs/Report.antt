@@ -7,7 +7,7 @@ use Rattle.basics.specs.Choice.{pick, same}
 use Rattle.basics.specs.Text.{text, decimal}
 use Rattle.stage.specs.Printed.{stage-text}
 use Rattle.job.specs.declared.Kind.{Kind}
-use Rattle.job.specs.declared.Kind.the-variants.{Queue, Stack}
+use Rattle.job.specs.declared.Kind.the-variants.{Queue, Stack, TwoWay}
 use Rattle.job.specs.Job.{Job}
 use Rattle.machine.specs.Multiplicity.{Line}
 use Rattle.machine.specs.Multiplicity.Line.{put, takes, empty}
@@ -16,10 +16,11 @@ use Rattle.machine.specs.Journal.{first, last, answer}
 use Rattle.machine.specs.Record.{Recorded, the-record}
 use Rattle.machine.specs.Left.{left}
 
--- `object queue`; "Kind 2 prints `object stack`."
+-- `object queue`; "Kind 2 prints `object stack`."; document 02, request 3: "it becomes kind 3, printed `object linked`"
 unfoldable pub object-line : Kind → List ℕ
 object-line Queue = text "object queue\n"
 object-line Stack = text "object stack\n"
+object-line TwoWay = text "object linked\n"
 
 -- `put 50` or `take`; "put and value in whole cm"
 unfoldable pub action-text : Job → ℕ → List ℕ

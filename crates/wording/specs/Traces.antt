@@ -1,5 +1,6 @@
 -- Traces, as one table of jobs and whole reports: those that document 01 marks M ("M is proved"), as document 02 has them, and behind them
--- five of our own, so that every outcome of every row happens in some trace. The reports are worked out from the papers by hand.
+-- eleven of our own, six of them of the two-way linked stack, of which document 02 has no trace, so that every outcome of every row happens in
+-- some trace. The reports are worked out from the papers by hand.
 -- `traces-proved` says that the definitions accept every job and give its report, by computation.
 use mathlib.Core.Path.{_≡_, refl}
 use Prim.Native.Nat.{ℕ, _-_}
@@ -20,7 +21,7 @@ use Rattle.job.specs.Refusals.{first-met, any, outside, bad-kind, bad-processes
 use Rattle.job.specs.File.{zeros, block-at, block-count, payloads, joined, blocks, padded, file-of, bad-length, blocks-refusal, bad-count, stream-refusal, file-refusal}
 use Rattle.job.specs.Job.{job-of}
 use Rattle.job.specs.Examples.{put, take, joined-records, header, stream}
-use Rattle.machine.specs.Memory.{fresh-memory, set-from-to, yes-if, with-head, with-tail, with-top, with-next, with-mark}
+use Rattle.machine.specs.Memory.{fresh-memory, set-from-to, yes-if, with-head, with-tail, with-top, with-next, with-mark, with-upper}
 use Rattle.machine.specs.Table.{row, table, position, row-of, successor, end-of, is-end, ended, first-row}
 use Rattle.machine.specs.Access.{have-read, have-set, access}
 use Rattle.machine.specs.Run.{seek, operation-after, before, fresh-state, reach, registers, reached, row-after, place-after, resting, step, state-after}
@@ -65,6 +66,10 @@ traces =
     ∷ record {
       job = stream 2 2 (put 0 500 ∷ take 1 ∷ []) [];
       expected = "object stack\nop 1 process 0 put 50 first - last - waiting\nop 2 process 1 take first - last - waiting\nleft 0\n";
+    }
+    ∷ record {
+      job = stream 3 2 (put 0 500 ∷ take 1 ∷ []) [];
+      expected = "object linked\nop 1 process 0 put 50 first - last - waiting\nop 2 process 1 take first - last - waiting\nleft 0\n";
     }
     -- "M stack; 1 process 0 put; 2 process 1 take; 3 process 0 put; 0 0 1 1 0 0 0 1 1: take 2 gets item 1; `at 2 put 1`, `at 3 take 1 by 2`,
     -- `at 7 put 3`, `left 1 3`."
@@ -131,6 +136,42 @@ traces =
       job = stream 2 4 (put 0 500 ∷ put 0 515 ∷ take 1 ∷ take 2 ∷ take 3 ∷ take 1 ∷ take 0 ∷ []) (0 ∷ 0 ∷ 0 ∷ 0 ∷ 0 ∷ 1 ∷ 1 ∷ 1 ∷ 2 ∷ 2 ∷ 3 ∷ 3 ∷ 2 ∷ 3 ∷ 1 ∷ 2 ∷ 2 ∷ 1 ∷ 1 ∷ 3 ∷ 3 ∷ 1 ∷ 3 ∷ 2 ∷ 1 ∷ 0 ∷ 3 ∷ 2 ∷ []);
       expected = "object stack\nop 1 process 0 put 50 first 1 last 2 done\nop 2 process 0 put 52 first 3 last 5 done\nop 3 process 1 take first 6 last 15 item 2 value 52\nop 4 process 2 take first 9 last 28 item 1 value 50\nop 5 process 3 take first 11 last 27 item 1 value 50\nop 6 process 1 take first 18 last 25 item 1 value 50\nop 7 process 0 take first 26 last 26 empty\nat 2 put 1\nat 5 put 2\nat 6 take 2 by 3\nat 20 take 1 by 4 5 6\nat 26 empty by 7\nleft 0\n";
     }
+    -- A two-way linked stack alone: a take that finds nothing, W1 W2; a put, V1 V2 V3 V4 V5; a take, W1 W2 W3 W4 W5 W6.
+    ∷ record {
+      job = stream 3 1 (take 0 ∷ put 0 500 ∷ take 0 ∷ []) (0 ∷ 0 ∷ 0 ∷ 0 ∷ 0 ∷ 0 ∷ 0 ∷ 0 ∷ 0 ∷ 0 ∷ 0 ∷ 0 ∷ 0 ∷ []);
+      expected = "object linked\nop 1 process 0 take first 1 last 2 empty\nop 2 process 0 put 50 first 3 last 7 done\nop 3 process 0 take first 8 last 13 item 2 value 50\nat 2 empty by 1\nat 6 put 2\nat 11 take 2 by 3\nleft 0\n";
+    }
+    -- Two takers of one item, a step each in turn: both pass W4, and the line stands at the first W4, step 12. The second finds the sentinel's upper gone at W5
+    -- and Top moved at W6.
+    ∷ record {
+      job = stream 3 3 (put 0 500 ∷ take 1 ∷ take 2 ∷ []) (0 ∷ 0 ∷ 0 ∷ 0 ∷ 0 ∷ 1 ∷ 2 ∷ 1 ∷ 2 ∷ 1 ∷ 2 ∷ 1 ∷ 2 ∷ 1 ∷ 2 ∷ 1 ∷ 2 ∷ []);
+      expected = "object linked\nop 1 process 0 put 50 first 1 last 5 done\nop 2 process 1 take first 6 last 16 item 1 value 50\nop 3 process 2 take first 7 last 17 item 1 value 50\nat 4 put 1\nat 12 take 1 by 2 3\nleft 0\n";
+    }
+    -- Puts that help and that come too late: V4 of 2 finds the sentinel's cell taken; V2 that reads an upper, V6 that moves Top (2) and V6 that finds it
+    -- moved (3); V5 of 1 finds it moved. Three items are left, the last one on top.
+    ∷ record {
+      job = stream 3 3 (put 0 500 ∷ put 1 600 ∷ put 2 700 ∷ []) (0 ∷ 0 ∷ 0 ∷ 1 ∷ 1 ∷ 1 ∷ 0 ∷ 1 ∷ 1 ∷ 1 ∷ 2 ∷ 2 ∷ 1 ∷ 2 ∷ 0 ∷ 1 ∷ 1 ∷ 1 ∷ 1 ∷ 1 ∷ 2 ∷ 2 ∷ 2 ∷ 2 ∷ 2 ∷ []);
+      expected = "object linked\nop 1 process 0 put 50 first 1 last 15 done\nop 2 process 1 put 60 first 4 last 20 done\nop 3 process 2 put 70 first 11 last 25 done\nat 7 put 1\nat 19 put 2\nat 24 put 3\nleft 3 3 2 1\n";
+    }
+    -- Puts that find a dead node on top: V4 of 4 finds it dead; V3 that reads the flag cleared, V7 that cuts and V8 that moves Top (3), V7 that finds it cut
+    -- and V8 that finds Top moved (4). Take 2 stays open behind its W4 and took effect.
+    ∷ record {
+      job = stream 3 4 (put 0 500 ∷ take 1 ∷ put 2 600 ∷ put 3 700 ∷ []) (0 ∷ 0 ∷ 0 ∷ 0 ∷ 0 ∷ 3 ∷ 3 ∷ 3 ∷ 1 ∷ 1 ∷ 1 ∷ 1 ∷ 3 ∷ 2 ∷ 2 ∷ 2 ∷ 3 ∷ 3 ∷ 3 ∷ 2 ∷ 3 ∷ 2 ∷ 3 ∷ 2 ∷ 2 ∷ 2 ∷ 2 ∷ 2 ∷ 3 ∷ 3 ∷ 3 ∷ 3 ∷ 3 ∷ []);
+      expected = "object linked\nop 1 process 0 put 50 first 1 last 5 done\nop 2 process 1 take first 9 last - open\nop 3 process 2 put 60 first 14 last 28 done\nop 4 process 3 put 70 first 6 last 33 done\nat 4 put 1\nat 12 take 1 by 2\nat 27 put 3\nat 32 put 4\nleft 2 4 3\n";
+    }
+    -- Takes that find an upper, and a dead node on top: W2 that reads an upper, W8 that moves Top (3) and W8 that finds it moved (4); W4 of 3 finds an upper, so
+    -- it goes round. Take 5 clears 2's flag; W3 that reads it cleared, W7 that cuts and W9 that moves Top (3), W7 that finds it cut and W9 that finds
+    -- Top moved (4). 515 mm, taken, is 52.
+    ∷ record {
+      job = stream 3 4 (put 0 500 ∷ put 0 515 ∷ take 1 ∷ take 2 ∷ take 3 ∷ []) (0 ∷ 0 ∷ 0 ∷ 0 ∷ 1 ∷ 1 ∷ 2 ∷ 2 ∷ 1 ∷ 2 ∷ 0 ∷ 1 ∷ 1 ∷ 1 ∷ 0 ∷ 0 ∷ 0 ∷ 0 ∷ 1 ∷ 0 ∷ 3 ∷ 3 ∷ 3 ∷ 3 ∷ 1 ∷ 1 ∷ 1 ∷ 2 ∷ 2 ∷ 2 ∷ 1 ∷ 2 ∷ 1 ∷ 2 ∷ 3 ∷ 3 ∷ 1 ∷ 1 ∷ 1 ∷ 1 ∷ 1 ∷ 1 ∷ 2 ∷ 2 ∷ []);
+      expected = "object linked\nop 1 process 0 put 50 first 1 last 11 done\nop 2 process 0 put 52 first 15 last 20 done\nop 3 process 1 take first 5 last 42 item 1 value 50\nop 4 process 2 take first 7 last 44 empty\nop 5 process 3 take first 21 last 36 item 2 value 52\nat 4 put 1\nat 18 put 2\nat 24 take 2 by 5\nat 40 take 1 by 3\nat 44 empty by 4\nleft 0\n";
+    }
+    -- A put whose node is taken before its V5: take 2 helps Top to it, takes it and cuts it off. The put's V5 then finds Top at the sentinel again and sets it
+    -- to its own node, though the sentinel's upper is none by then; so take 3 finds a dead node on top, W7 that finds it cut and W9 that moves Top.
+    ∷ record {
+      job = stream 3 2 (put 0 500 ∷ take 1 ∷ take 1 ∷ []) (0 ∷ 0 ∷ 0 ∷ 0 ∷ 1 ∷ 1 ∷ 1 ∷ 1 ∷ 1 ∷ 1 ∷ 1 ∷ 1 ∷ 1 ∷ 0 ∷ 1 ∷ 1 ∷ 1 ∷ 1 ∷ 1 ∷ 1 ∷ 1 ∷ []);
+      expected = "object linked\nop 1 process 0 put 50 first 1 last 14 done\nop 2 process 1 take first 5 last 13 item 1 value 50\nop 3 process 1 take first 15 last 21 empty\nat 4 put 1\nat 11 take 1 by 2\nat 21 empty by 3\nleft 0\n";
+    }
     ∷ []
 
 -- the refusal of a trace's file, and the report of its job
@@ -146,5 +187,5 @@ unfoldable pub promised : Trace → Replayed
 promised t = record { number = 0; text = text (t .expected) }
 
 pub traces-proved : map replayed traces ≡ map promised traces
-unfolding put take below joined-records header stream traces replayed promised pick same less at upd word word-bytes text digits decimal block-size payload-size summed-size add-byte add-bytes sums block payload-of sum-differs misplaced block-refusal kind-number kinds look-up kind-of is-missing kind-found kind processes operations schedule-length record-at process action value scheduled stream-length first-met any outside bad-kind bad-processes bad-operations bad-schedule-length exact-count bad-record bad-records bad-entry bad-schedule bad-padding header-conditions list-conditions most-file zeros block-at block-count payloads joined blocks padded file-of bad-length blocks-refusal bad-count stream-refusal file-refusal job-of fresh-memory set-from-to yes-if with-head with-tail with-top with-next with-mark row table position row-of successor end-of is-end ended first-row have-read have-set access seek operation-after before fresh-state reach registers reached row-after place-after resting step state-after answer-at answer-of is-answer event-of is-round is-linked item-of moved-to idle acted note earliest latest made begins-round links joins ends first last answer start link join taken numbers sift largest takers first-move latest-start takes-at is-empty effect if-at line-at lines-to the-record walk left-in left millimetres half-way even-one nearest centimetres signed-decimal stage-text object-line action-text answer-text progress-text operation-line operation-lines spaced effect-text record-line record-lines left-line report
+unfolding put take below joined-records header stream traces replayed promised pick same less at upd word word-bytes text digits decimal block-size payload-size summed-size add-byte add-bytes sums block payload-of sum-differs misplaced block-refusal kind-number kinds look-up kind-of is-missing kind-found kind processes operations schedule-length record-at process action value scheduled stream-length first-met any outside bad-kind bad-processes bad-operations bad-schedule-length exact-count bad-record bad-records bad-entry bad-schedule bad-padding header-conditions list-conditions most-file zeros block-at block-count payloads joined blocks padded file-of bad-length blocks-refusal bad-count stream-refusal file-refusal job-of fresh-memory set-from-to yes-if with-head with-tail with-top with-next with-mark with-upper row table position row-of successor end-of is-end ended first-row have-read have-set access seek operation-after before fresh-state reach registers reached row-after place-after resting step state-after answer-at answer-of is-answer event-of is-round is-linked item-of moved-to idle acted note earliest latest made begins-round links joins ends first last answer start link join taken numbers sift largest takers first-move latest-start takes-at is-empty effect if-at line-at lines-to the-record walk left-in left millimetres half-way even-one nearest centimetres signed-decimal stage-text object-line action-text answer-text progress-text operation-line operation-lines spaced effect-text record-line record-lines left-line report
 traces-proved = refl

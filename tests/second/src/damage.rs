@@ -78,7 +78,7 @@ pub fn fault(number: u32, draft: &Draft, random: &mut Random) -> Option<Fault> {
         2 => length_change(random),
         3 => Change::Sum(block, random.below(BLOCK - SUMMED), random.between(1, 255) as u8),
         4 => Change::Number(block, (block + random.between(1, 65_535)) as u16),
-        5 => Change::Byte(0, header_byte(1, 2, random)),
+        5 => Change::Byte(0, header_byte(1, 3, random)),
         6 => Change::Byte(1, header_byte(1, PROCESSES as u8, random)),
         7 => Change::Word(2, *random.pick(&[0, OPERATIONS as u16 + 1, 512, 65_535])),
         8 => Change::Word(4, *random.pick(&[STEPS as u16 + 1, 16_640, 32_768, 65_535])),

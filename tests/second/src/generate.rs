@@ -35,6 +35,11 @@ pub fn take(process: u8) -> Record {
     [process, 2, 0, 0]
 }
 
+/// The schedule of some turns: a process, and how many steps it makes one after the other.
+pub fn turns(turns: &[(u8, usize)]) -> Vec<u8> {
+    turns.iter().flat_map(|&(process, steps)| vec![process; steps]).collect()
+}
+
 /// What a job is made to try.
 #[derive(Clone, Copy, PartialEq, Eq, Debug)]
 pub enum Style {
@@ -47,6 +52,7 @@ pub enum Style {
     Sequential,
     Stalled,
     Gathered,
+    HeldBack,
     IdleProcesses,
     AllPuts,
     AllTakes,
@@ -56,7 +62,7 @@ pub enum Style {
     AllSteps,
 }
 
-pub const STYLES: [Style; 16] = [
+pub const STYLES: [Style; 17] = [
     Style::Uniform,
     Style::Weighted,
     Style::Lockstep,
@@ -66,6 +72,7 @@ pub const STYLES: [Style; 16] = [
     Style::Sequential,
     Style::Stalled,
     Style::Gathered,
+    Style::HeldBack,
     Style::IdleProcesses,
     Style::AllPuts,
     Style::AllTakes,
@@ -84,7 +91,7 @@ pub fn style(seed: u64) -> Style {
 pub fn job(seed: u64) -> Draft {
     let mut random = Random::new(seed);
     let style = style(seed);
-    let kind = random.between(1, 2) as u8;
+    let kind = random.between(1, 3) as u8;
     let processes = random.between(1, PROCESSES) as u8;
     let operations = match style {
         Style::OneOperation => 1,

@@ -3,7 +3,7 @@
 
 pub mod flood;
 
-use crate::generate::{Draft, put, take};
+use crate::generate::{Draft, put, take, turns};
 
 /// A job and the report that the papers give for it.
 pub struct Trace {
@@ -198,21 +198,37 @@ fn stack(processes: u8, records: &[[u8; 4]], schedule: &[u8]) -> Draft {
     Draft { kind: 2, ..queue(processes, records, schedule) }
 }
 
+fn linked(processes: u8, records: &[[u8; 4]], schedule: &[u8]) -> Draft {
+    Draft { kind: 3, ..queue(processes, records, schedule) }
+}
+
 /// The jobs of docs/STEPS.md where nobody else steps in between: how many steps each operation makes.
-fn alone() -> [(&'static str, Draft); 2] {
+fn alone() -> [(&'static str, Draft); 3] {
+    let in_turn = [take(0), put(0, 1200), put(0, 1310), take(0), take(0)];
     [
         ("queue-alone", queue(1, &[take(0), put(0, 1200), take(0)], &[0; 11])),
-        ("stack-alone", stack(1, &[take(0), put(0, 1200), put(0, 1310), take(0), take(0)], &[0; 14])),
+        ("stack-alone", stack(1, &in_turn, &[0; 14])),
+        ("linked-alone", linked(1, &in_turn, &[0; 24])),
     ]
 }
 
-/// The jobs of docs/STEPS.md where operations meet: a put that stays open, a take that stays open, a double on a stack.
-fn met() -> [(&'static str, Draft); 3] {
+/// The jobs of docs/STEPS.md where operations meet: a put that stays open, a take that stays open, doubles on a stack and on a linked one.
+fn met() -> [(&'static str, Draft); 5] {
+    let double = [put(0, 1200), take(1), take(2)];
     [
         ("open-put", queue(2, &[put(0, 1200), take(1)], &[0, 0, 0, 1, 1, 1, 1, 1, 1, 1, 1])),
-        ("open-take", stack(3, &[put(0, 1200), take(1), take(2)], &[0, 0, 1, 1, 1, 2, 2, 2, 2])),
-        ("stack-double", stack(3, &[put(0, 1200), take(1), take(2)], &[0, 0, 1, 1, 2, 2, 1, 1, 2, 2])),
+        ("open-take", stack(3, &double, &[0, 0, 1, 1, 1, 2, 2, 2, 2])),
+        ("stack-double", stack(3, &double, &[0, 0, 1, 1, 2, 2, 1, 1, 2, 2])),
+        ("linked-double", linked(3, &double, &turns(&[(0, 5), (1, 3), (2, 3), (1, 3), (2, 3)]))),
+        ("linked-help", linked_help()),
     ]
+}
+
+/// Put 1 stops before its V5, so put 2 finds Top behind: V6. Take 3 stops behind its W4, so put 4 finds a dead node on top: V7, V8. Then
+/// 1 and 3 end.
+fn linked_help() -> Draft {
+    let schedule = turns(&[(0, 4), (1, 8), (2, 4), (3, 10), (0, 1), (2, 2)]);
+    linked(4, &[put(0, 1200), put(1, 1310), take(2), put(3, 1420)], &schedule)
 }
 
 /// The job whose file docs/FORMAT.md shows byte by byte: a put of 0 mm by process 1, and an idle step of process 0.

@@ -13,7 +13,8 @@ pub fn json(name: &str, run: &Run) -> String {
     });
     object([
         ("name", string(name)),
-        ("object", string(run.kind.name())),
+        ("object", string(run.kind.noun())),
+        ("end", string(reading::end(run.kind))),
         ("processes", processes.to_string()),
         ("steps", steps.to_string()),
         ("operations", array(run.operations.iter().map(operation).collect())),
@@ -102,12 +103,25 @@ mod tests {
         );
         let json = json("a.job", &run.unwrap());
         let expected = concat!(
-            r#"{"name":"a.job","object":"queue","processes":2,"steps":1,"operations":["#,
+            r#"{"name":"a.job","object":"queue","end":"front","processes":2,"steps":1,"operations":["#,
             r#"{"number":1,"process":1,"action":"put","value":-2,"first":1,"ending":"open","line":"op 1 process 1 put -2 first 1 last - open"},"#,
             r#"{"number":2,"process":0,"action":"take","ending":"waiting","line":"op 2 process 0 take first - last - waiting"}],"#,
             r#""record":[],"left":[],"leftLine":"left 0","fates":{"1":["#,
             r#""Reading 1: -2 cm, put by operation 1 of process 1 (open since step 1).","It is not in the record: it never came into the queue."]}}"#
         );
         assert_eq!(json, expected);
+    }
+
+    #[test]
+    fn a_linked_stack_is_listed_from_the_top() {
+        let report = "object linked\nop 1 process 0 put 50 first 1 last - open\nat 4 put 1\nleft 1 1\n";
+        let json = json("a.job", &Run::of(report).unwrap());
+        let begins = r#"{"name":"a.job","object":"linked stack","end":"top","processes":1,"steps":4,"#;
+        let ends = concat!(
+            r#""left":[1],"leftLine":"left 1 1","fates":{"1":["Reading 1: 50 cm, put by operation 1 of process 0 (open since step 1).","#,
+            r#""The record has it coming into the linked stack at step 4.","#,
+            r#""Nobody took it. It is still in the linked stack: place 1 of 1 from the top."]}}"#
+        );
+        assert!(json.starts_with(begins) && json.ends_with(ends), "{json}");
     }
 }

@@ -1,7 +1,7 @@
 //! A job's text read: docs/TEXT.md. Every wrong line is told, with what was found and what is allowed.
 
 use crate::names::excerpt;
-use crate::words::grouped;
+use crate::words::{either, grouped};
 use pigwazet::limits::{OPERATIONS, PROCESSES, STEPS};
 use pigwazet::{Action, Job, Kind, Operation};
 use std::fmt;
@@ -120,8 +120,10 @@ impl Draft {
     }
 
     fn take_object(&mut self, word: &str) -> Result<(), Wrong> {
-        let kinds = kinds(", ");
-        let other = || Wrong::new(quoted(word), format!("a line that begins with {kinds}, processes, put, take or order"));
+        let other = || {
+            let words: Vec<String> = kinds().chain(["processes", "put", "take", "order"].map(String::from)).collect();
+            Wrong::new(quoted(word), format!("a line that begins with {}", either(&words)))
+        };
         let kind = Kind::named(word).ok_or_else(other)?;
         match self.kind.replace(kind) {
             None => Ok(()),
@@ -184,7 +186,7 @@ impl Draft {
 
     fn job(self) -> Result<Job, Wrong> {
         let missing = |what: &str, allowed: String| Wrong::new(format!("the end of the text, and no {what}"), allowed);
-        let kind = self.kind.ok_or_else(|| missing("object", format!("a line {}", kinds(" or "))))?;
+        let kind = self.kind.ok_or_else(|| missing("object", format!("a line {}", either(&kinds().collect::<Vec<_>>()))))?;
         let processes = self.processes.ok_or_else(|| missing("line of processes", "'processes' and how many".to_string()))?;
         if self.operations.is_empty() {
             return Err(missing("operation", format!("1 to {OPERATIONS} lines that begin with put or take")));
@@ -193,6 +195,6 @@ impl Draft {
     }
 }
 
-fn kinds(between: &str) -> String {
-    Kind::all().map(Kind::name).collect::<Vec<_>>().join(between)
+fn kinds() -> impl Iterator<Item = String> {
+    Kind::all().map(|kind| kind.name().to_string())
 }

@@ -171,7 +171,7 @@ fn block_number(file: &[u8]) -> Option<Decided> {
 }
 
 fn header(stream: &Stream, number: u32) -> Decided {
-    let kinds: Vec<String> = Kind::all().map(|kind| format!("{} for a {}", kind.number(), kind.name())).collect();
+    let kinds: Vec<String> = Kind::all().map(|kind| format!("{} for a {}", kind.number(), kind.noun())).collect();
     let (field, found, remedy) = match number {
         5 => (0, usize::from(stream.0[0]), format!("the kind is {}", kinds.join(", "))),
         6 => (1, usize::from(stream.processes()), format!("a job has 1 to {PROCESSES} processes")),

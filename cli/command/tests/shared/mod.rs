@@ -33,9 +33,9 @@ pub fn generated(seed: u64) -> (Draft, Vec<u8>) {
     (draft, file)
 }
 
-/// A full-size job, and its file: 256 operations on 8 processes, 16,384 steps, queues and stacks in turn.
+/// A full-size job, and its file: 256 operations on 8 processes, 16,384 steps, the kinds in turn.
 pub fn full_size(seed: u64) -> (Draft, Vec<u8>) {
-    let draft = shapes::job(1 + (seed % 2) as u8, OPERATIONS, STEPS, &Order::Crowded, seed);
+    let draft = shapes::job(1 + (seed % 3) as u8, OPERATIONS, STEPS, &Order::Crowded, seed);
     let file = sealed(&draft.stream());
     (draft, file)
 }

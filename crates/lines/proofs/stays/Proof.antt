@@ -11,5 +11,12 @@ pub stays-spec : {M : Type 1} → statement M
 unfolding Members.stays same
 stays-spec =
     tie.close
-    (tie.spec (λ c. search needs) (λ c. search needs) (λ c κs. search needs) (λ c. search needs)
-    (λ c. let start = c .before .before .before .before .args in ap (λ n. same n 0) (c .cell .ensures) ∙ sym (ap (λ object. Members.stays object (marks (start .nodes .now) (start .node))) (c .before .enum-told2 .given .1))))
+    (tie.spec
+    (λ c. search needs)
+    (λ c. search needs)
+    (λ c κs. search needs)
+    (λ c. search needs)
+    (λ c κs. search needs)
+    (λ c. search needs)
+    (λ c. let start = c .before .before .before .before .args in ap (λ n. same n 0) (c .cell .ensures) ∙ sym (ap (λ object. Members.stays object (marks (start .nodes .now) (start .node))) (c .before .enum-told2 .given .1)))
+    (λ c. let start = c .before .before .before .before .args in ap (λ n. same n 0) (c .cell2 .ensures) ∙ sym (ap (λ object. Members.stays object (marks (start .nodes .now) (start .node))) (c .before .enum-told3 .given .1))))

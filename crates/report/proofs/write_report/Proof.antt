@@ -4,7 +4,7 @@ use native.Mathlib.Omega.{arith}
 use borrow.Author.Needs.{needs}
 use lib.ListN.{length, length-append}
 use Rattle.text.proofs.Laid.{wrote-four}
-use Rattle.report.proofs.Whole.{head-there, parts, reported}
+use Rattle.report.proofs.Whole.{head-there, uppers-there, parts, reported}
 use Rattle.report.proofs.write_report.Statement.{statement}
 use Rattle.report.proofs.write_report.Tie as tie
 
@@ -37,7 +37,7 @@ pub write-report-spec : {M : Type 1} → statement M
 write-report-spec =
     tie.close
     (tie.spec
-    (λ c κs. head-there (c .before .before .before .before .before .before .pre .2))
+    (λ c κs. (head-there (c .before .before .before .before .before .before .pre .2), uppers-there (c .before .before .before .before .before .before .pre .2)))
     object-line-requires
     operation-lines-requires
     record-lines-requires

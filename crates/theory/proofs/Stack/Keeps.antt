@@ -18,8 +18,8 @@ use Rattle.machine.specs.Explained.{IsOperation}
 use Rattle.machine.proofs.Stamps.{start-le, start-other, start-unless, start-new}
 use Rattle.machine.proofs.Turns.Locals.{Local}
 use Rattle.theory.proofs.Listing.{initial}
-use Rattle.theory.proofs.Course.{Course, PassesIn, ActsIn, passes-by, passes-event}
-use Rattle.theory.proofs.Life.{operation-some, life}
+use Rattle.theory.proofs.Course.{Course, PassesIn, ActsIn, passes-event}
+use Rattle.theory.proofs.Life.{operation-some, own-or-other, life}
 use Rattle.theory.proofs.Stack.Raised.{is-raise, raised, raised-zero, raised-least, raised-kept, raised-later}
 use Rattle.theory.proofs.Stack.Rows.{Knows, knows-kept, own-knows}
 use Rattle.theory.proofs.Stack.Steps.{Happens, rests, pushes, pops, raises, begins, happens-by}
@@ -135,21 +135,13 @@ module _ (c : Course Stack) (k : ℕ) (kept : Keeps c k) (step : Happens c k) wh
           let r : (c .log (suc k) .event ≡ Round) × (c .memory (suc k) ≡ c .memory k) = round-begins c k e step in
           ap (λ s. c .memory s .top) (start-new (c .log) k o (a .by) (r .0)) ∙ ap (λ m. m .top) (r .1)
 
-  rows-next : PassesIn c k ⊎ ((o : ℕ) × ActsIn c k o) → (o : ℕ) → IsOperation (c .count) o → KnowsAt c (suc k) o (c .local (suc k) o)
-  rows-next (inl i) o op = rows-of-other o op (λ e. operation-some op (sym e ∙ passes-by i)) (i .locals-kept o (operation-some op))
-  rows-next (inr (q, a)) o op = go (split o q)
-    where
-      go : (o ≡ q) ⊎ (o ≢ q) → KnowsAt c (suc k) o (c .local (suc k) o)
-      go (inl e) = rows-of-actor o (subst (ActsIn c k) (sym e) a)
-      go (inr n) = rows-of-other o op (λ e. n (sym e ∙ a .by)) (a .others-kept o n)
-
   keeps-next : Keeps c (suc k)
   keeps-next =
       record {
         raised-marked = raised-marked-next;
         marked-raised = marked-raised-next;
         marked-node = marked-node-next;
-        rows = rows-next (c .step k);
+        rows = λ o op. own-or-other c k o (operation-some op) (rows-of-other o op) (rows-of-actor o);
       }
 
 module _ (c : Course Stack) where

@@ -1,16 +1,15 @@
 -- The first R3 on a node, and what one more step does to it. Assumes nothing.
 use mathlib.Core.Path.{_≡_, sym, ap}
-use mathlib.Core.Logic.{_≢_, _⊎_, inl, inr}
+use mathlib.Core.Logic.{_≢_}
 use Prim.Native.Nat.{ℕ, suc, _≤_, _<_}
 use mathlib.Core.Bool.{Bool, true, false, true≢false}
-use native.Mathlib.Omega.{arith}
 use Rattle.basics.specs.Choice.{same}
-use Rattle.basics.proofs.Choice.{split, same-equal, same-refl}
+use Rattle.basics.proofs.Choice.{same-equal, same-refl}
 use Rattle.machine.specs.declared.Event.{Event}
 use Rattle.machine.specs.declared.Event.the-variants.{Quiet, Round, Linked, Moved, Late, Raised}
 use Rattle.machine.specs.Notes.{Note}
 use Rattle.machine.specs.Journal.{earliest}
-use Rattle.machine.proofs.Searches.{earliest-zero, earliest-le, earliest-meets, earliest-least, earliest-kept, earliest-stays, earliest-after}
+use Rattle.machine.proofs.Searches.{earliest-zero, earliest-le, earliest-meets, earliest-least, earliest-kept, earliest-stays, earliest-later}
 
 -- is it an R3 on node t?
 unfoldable pub is-raise : ℕ → Event → Bool
@@ -67,14 +66,7 @@ module _ (log : ℕ → Note) where
   unfolding raised
   raised-kept k t e = earliest-kept (λ s. is-raise t (log s .event)) k e
 
-  raised-after : (k t : ℕ) → raised log k t ≡ 0 → raised log (suc k) t ≢ 0 → k < raised log (suc k) t
-  unfolding raised
-  raised-after k t z n = earliest-after (λ s. is-raise t (log s .event)) k (suc k) z n
-
   -- a step that is before it stays before it
   pub raised-later : (k t s : ℕ) → s ≤ k → (raised log k t ≢ 0 → s < raised log k t) → raised log (suc k) t ≢ 0 → s < raised log (suc k) t
-  raised-later k t s low h n = go (split (raised log k t) 0)
-    where
-      go : (raised log k t ≡ 0) ⊎ (raised log k t ≢ 0) → s < raised log (suc k) t
-      go (inl z) = omega (arith, raised-after k t z n)
-      go (inr m) = omega (arith, h m, raised-stays k (suc k) t (omega arith) m)
+  unfolding raised
+  raised-later k t s low h n = earliest-later (λ s. is-raise t (log s .event)) k s low h n

@@ -3,7 +3,7 @@
 use mathlib.Core.Path.{_≡_, refl, sym, ap, subst, _∙_}
 use mathlib.Core.Logic.{_≢_, _⊎_, inl, inr}
 use Prim.Native.Nat.{ℕ}
-use mathlib.Core.List.{List, [], _∷_, List·Memᴰ, List·Memᴰ·not-nil, List·Memᴰ·cases-cons, Memᴰ·cast}
+use mathlib.Core.List.{List, [], _∷_, List·Memᴰ, List·Memᴰ·cases-cons, Memᴰ·cast}
 use mathlib.Core.List.List·Memᴰ.{List·Memᴰ·head, List·Memᴰ·tail}
 use native.Mathlib.Omega.{arith}
 use Rattle.basics.specs.Choice.{same}
@@ -67,7 +67,7 @@ module _ {count : ℕ} {born upper next mark : ℕ → ℕ} {list : List ℕ} (d
       (ap (upd upper t o) (sym at-top) ∙ upd-here upper t o)
       (tower-kept (d .distinct)
       (λ i s n. upd-there upper t o (λ e. n (e ∙ at-top)))
-      (λ i m. upd-there next o t (λ e. not-there (Memᴰ·cast e m)))
+      (λ i m. upd-there next o t (λ e. not-there (Memᴰ·cast (sym e) m)))
       (d .tower))
 
   holds-linked : (i : ℕ) → upd upper t o i ≢ 0 → Spot i (o ∷ list)
@@ -162,7 +162,7 @@ module _ {count : ℕ} {born upper next mark : ℕ → ℕ} {t : ℕ} where
   pub cut-off : {list : List ℕ} → Sound count born upper next mark list → mark t ≢ 0 → upper (next t) ≡ t → IsCut count born upper next mark t list
   cut-off d dead held =
       let some : upper (next t) ≢ 0 = λ z. dead-some d t dead (sym held ∙ z) in
-      cut-floor d dead (is-uppermost d (inr (Memᴰ·cast held (upper-in d (next t) some))) (d .dead-bare t dead)) (d .tower)
+      cut-floor d dead (is-uppermost d (inr (Memᴰ·cast (sym held) (upper-in d (next t) some))) (d .dead-bare t dead)) (d .tower)
 
 -- the flag of a linked node t without upper is cleared
 module _ {count : ℕ} {born upper next mark : ℕ → ℕ} {list : List ℕ} (d : Sound count born upper next mark list) {t : ℕ} (t-born : born t ≢ 0) (t-bare : upper t ≡ 0) where
@@ -203,7 +203,7 @@ module _ {count : ℕ} {born upper next mark : ℕ → ℕ} {list : List ℕ} (d
       go (x ∷ rest) e top =
           let is : list ≡ t ∷ rest = e ∙ ap (λ y. y ∷ rest) (sym (top ∙ ap top-of e)) in
           let fresh : List·Memᴰ t rest → ⊥ = distinct-first (subst Distinct is (d .distinct)) in
-          let others : live mark rest ≡ live (upd mark t 1) rest = sift-agrees (λ i. same (mark i) 0) (λ i. same (upd mark t 1 i) 0) rest (λ i m. ap (λ x. same x 0) (sym (upd-there mark t 1 (λ f. fresh (Memᴰ·cast f m))))) in
+          let others : live mark rest ≡ live (upd mark t 1) rest = sift-agrees (λ i. same (mark i) 0) (λ i. same (upd mark t 1 i) 0) rest (λ i m. ap (λ x. same x 0) (sym (upd-there mark t 1 (λ f. fresh (Memᴰ·cast (sym f) m))))) in
           ap (live mark) is
           ∙ sift-keeps (λ i. same (mark i) 0) t rest (equal-same z)
           ∙ ap (λ l. t ∷ l) (others ∙ sym (ap (live (upd mark t 1)) is ∙ sift-drops (λ i. same (upd mark t 1 i) 0) t rest (unequal-same one-set)))

@@ -1,27 +1,23 @@
 -- What holds of the memory of a two-way linked stack: the tower is there, every linked and live node is of it, and a dead node has no upper. So a
 -- node without upper that is live is the uppermost; a put links its node on top of the tower, and the tower loses no node but a dead uppermost
 -- one. Assumes nothing.
-use mathlib.Core.Path.{_≡_, refl, sym, ap, subst, _∙_}
+use mathlib.Core.Path.{_≡_, ap, _∙_}
 use mathlib.Core.Logic.{_≢_, _⊎_, inl, inr}
 use Prim.Native.Nat.{ℕ, _≤_}
-use mathlib.Core.Bool.{Bool}
-use mathlib.Core.List.{List, [], _∷_, reverse, reverse-reverse, length-reverse, List·Memᴰ, List·Memᴰ·not-nil, List·Memᴰ·cases-cons, Memᴰ·cast}
-use mathlib.Core.List.List·Memᴰ.{List·Memᴰ·head, List·Memᴰ·tail}
+use mathlib.Core.List.{List, [], reverse, reverse-reverse, List·Memᴰ}
 use native.Mathlib.Omega.{arith}
-use lib.ListN.{length}
+use lib.ListN.{length, length-reverse}
 use Rattle.basics.specs.Choice.{same}
-use Rattle.basics.specs.Maps.{upd}
-use Rattle.basics.proofs.Choice.{split, equal-same, unequal-same}
-use Rattle.basics.proofs.Maps.{upd-here, upd-there, upd-elim}
+use Rattle.basics.proofs.Choice.{split}
 use Rattle.job.specs.declared.Kind.the-variants.{TwoWay}
 use Rattle.machine.specs.Memory.{Memory}
 use Rattle.machine.specs.Effects.{sift}
 use Rattle.machine.specs.Left.{left-in, walk}
 use Rattle.machine.specs.Explained.{IsOperation}
-use Rattle.machine.proofs.Lists.{Distinct, distinct-first, distinct-rest, distinct-at-most, sift-keeps, sift-drops, sift-agrees}
-use Rattle.theory.proofs.Nodes.{IsLinked, nodes-walk}
+use Rattle.machine.proofs.Lists.{Distinct, distinct-at-most}
+use Rattle.theory.proofs.Nodes.{IsLinked, end, nodes-walk}
 use Rattle.theory.proofs.Life.{operation-some}
-use Rattle.theory.proofs.TwoWay.Tower.{top-of, Tower, ground, floor, Spot, spot-top, above, tower-kept, tower-down, tower-up}
+use Rattle.theory.proofs.TwoWay.Tower.{top-of, Tower, Spot, above, tower-down, tower-up}
 
 -- the nodes of a list whose flag is live
 abbrev pub live : (ℕ → ℕ) → List ℕ → List ℕ
@@ -45,13 +41,13 @@ pub record Sound (count : ℕ) (born upper next mark : ℕ → ℕ) (list : List
 module _ {count : ℕ} {born upper next mark : ℕ → ℕ} {list : List ℕ} (d : Sound count born upper next mark list) where
   -- without an upper, the sentinel or a node of the tower is the uppermost
   pub is-uppermost : {i : ℕ} → Spot i list → upper i ≡ 0 → i ≡ top-of list
-  is-uppermost s z = go (above (d .tower) s)
+  is-uppermost {i} s z = go (above (d .tower) s)
     where
-      go : (_ ≡ top-of list) ⊎ ((upper _ ≢ 0) × List·Memᴰ (upper _) list) → _ ≡ top-of list
+      go : (i ≡ top-of list) ⊎ ((upper i ≢ 0) × List·Memᴰ (upper i) list) → i ≡ top-of list
       go (inl e) = e
       go (inr (n, m)) = absurd (n z)
 
-  live-spot : {t : ℕ} → IsLinked born t → mark t ≡ 0 → Spot t list
+  pub live-spot : {t : ℕ} → IsLinked born t → mark t ≡ 0 → Spot t list
   live-spot {t} l z = go (split t 0)
     where
       go : (t ≡ 0) ⊎ (t ≢ 0) → Spot t list
@@ -59,7 +55,7 @@ module _ {count : ℕ} {born upper next mark : ℕ → ℕ} {list : List ℕ} (d
       go (inr n) = inr (d .live-in t (l n) z)
 
   -- an upper is of the tower, so it is linked
-  upper-in : (i : ℕ) → upper i ≢ 0 → List·Memᴰ (upper i) list
+  pub upper-in : (i : ℕ) → upper i ≢ 0 → List·Memᴰ (upper i) list
   upper-in i n = go (above (d .tower) (d .holds i n))
     where
       go : (i ≡ top-of list) ⊎ ((upper i ≢ 0) × List·Memᴰ (upper i) list) → List·Memᴰ (upper i) list
@@ -69,10 +65,10 @@ module _ {count : ℕ} {born upper next mark : ℕ → ℕ} {list : List ℕ} (d
   pub upper-linked : (i : ℕ) → upper i ≢ 0 → born (upper i) ≢ 0
   upper-linked i n = d .born-in (upper i) (upper-in i n)
 
-  dead-some : (t : ℕ) → mark t ≢ 0 → t ≢ 0
+  pub dead-some : (t : ℕ) → mark t ≢ 0 → t ≢ 0
   dead-some t n = operation-some (d .operation t (d .dead-born t n))
 
-  few : length list ≤ count
+  pub few : length list ≤ count
   few = distinct-at-most count (d .distinct) (λ i m. let op : IsOperation count i = d .operation i (d .born-in i m) in (op .from-one, op .to-count))
 
 -- what is left is the tower's live nodes, the uppermost first
@@ -85,3 +81,8 @@ left-live {count} m {list} d =
 -- and a walk down from the uppermost finds the tower
 pub walk-down : {count : ℕ} {born upper next mark : ℕ → ℕ} {list : List ℕ} → Sound count born upper next mark list → walk next (top-of list) count ≡ list
 walk-down {count} d = nodes-walk count (tower-down (d .tower)) (few d)
+
+-- nothing is left where the sentinel has no upper
+pub left-none : (count : ℕ) (m : Memory) → m .upper 0 ≡ 0 → left-in TwoWay count m ≡ []
+unfolding left-in sift
+left-none count m z = ap (λ l. live (m .mark) (reverse l)) (nodes-walk count (end z) (omega arith))

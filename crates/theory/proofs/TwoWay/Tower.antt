@@ -33,19 +33,19 @@ spot-top (x ∷ l) = inr (List·Memᴰ·head refl)
 pub above : {upper next : ℕ → ℕ} {i : ℕ} {l : List ℕ} → Tower upper next l → Spot i l → (i ≡ top-of l) ⊎ ((upper i ≢ 0) × List·Memᴰ (upper i) l)
 above ground (inl z) = inl z
 above ground (inr m) = absurd (List·Memᴰ·not-nil m)
-above {upper} {i} (floor {x = x} {l = l} some lower up t) s = by-spot s
+above {upper} {i} (floor {x = x} {l = l} some lower up t) s = by-spot (λ b. above t b) s
   where
     from-below : (i ≡ top-of l) ⊎ ((upper i ≢ 0) × List·Memᴰ (upper i) l) → (i ≡ x) ⊎ ((upper i ≢ 0) × List·Memᴰ (upper i) (x ∷ l))
     from-below (inl e) = let is : upper i ≡ x = ap upper e ∙ up in inr ((λ z. some (sym is ∙ z)), List·Memᴰ·head is)
     from-below (inr (n, m)) = inr (n, List·Memᴰ·tail m)
 
-    by-member : (i ≡ x) ⊎ List·Memᴰ i l → (i ≡ x) ⊎ ((upper i ≢ 0) × List·Memᴰ (upper i) (x ∷ l))
-    by-member (inl e) = inl e
-    by-member (inr m) = from-below (above t (inr m))
+    by-member : (Spot i l → (i ≡ top-of l) ⊎ ((upper i ≢ 0) × List·Memᴰ (upper i) l)) → (i ≡ x) ⊎ List·Memᴰ i l → (i ≡ x) ⊎ ((upper i ≢ 0) × List·Memᴰ (upper i) (x ∷ l))
+    by-member below (inl e) = inl e
+    by-member below (inr m) = from-below (below (inr m))
 
-    by-spot : Spot i (x ∷ l) → (i ≡ x) ⊎ ((upper i ≢ 0) × List·Memᴰ (upper i) (x ∷ l))
-    by-spot (inl z) = from-below (above t (inl z))
-    by-spot (inr m) = by-member (List·Memᴰ·cases-cons m)
+    by-spot : (Spot i l → (i ≡ top-of l) ⊎ ((upper i ≢ 0) × List·Memᴰ (upper i) l)) → Spot i (x ∷ l) → (i ≡ x) ⊎ ((upper i ≢ 0) × List·Memᴰ (upper i) (x ∷ l))
+    by-spot below (inl z) = from-below (below (inl z))
+    by-spot below (inr m) = by-member below (List·Memᴰ·cases-cons m)
 
 -- a tower stays where no upper below its uppermost changes and no lower of it does
 pub tower-kept : {upper next upper′ next′ : ℕ → ℕ} {l : List ℕ} → Distinct l → ((i : ℕ) → Spot i l → i ≢ top-of l → upper′ i ≡ upper i) → ((i : ℕ) → List·Memᴰ i l → next′ i ≡ next i) → Tower upper next l → Tower upper′ next′ l
@@ -56,7 +56,7 @@ tower-kept {upper} {next} {upper′} {next′} d ups lowers (floor {x = x} {l = 
   where
     not-x : (i : ℕ) → Spot i l → i ≢ x
     not-x i (inl z) e = some (sym e ∙ z)
-    not-x i (inr m) e = distinct-first d (Memᴰ·cast e m)
+    not-x i (inr m) e = distinct-first d (Memᴰ·cast (sym e) m)
 
     below : (i : ℕ) → Spot i l → upper′ i ≡ upper i
     below i s = ups i (spot-more s) (not-x i s)

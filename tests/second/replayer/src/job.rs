@@ -13,6 +13,7 @@ pub type Refusal = u32;
 pub enum Kind {
     Queue,
     Stack,
+    Linked,
 }
 
 #[derive(Clone, Copy, PartialEq, Eq, Debug)]
@@ -52,6 +53,7 @@ impl Header {
         let kind = match stream[0] {
             1 => Kind::Queue,
             2 => Kind::Stack,
+            3 => Kind::Linked,
             _ => return Err(5),
         };
         let processes = stream[1];

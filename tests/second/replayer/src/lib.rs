@@ -4,6 +4,7 @@
 pub mod calls;
 pub mod file;
 pub mod job;
+pub mod linked;
 pub mod machine;
 pub mod queue;
 pub mod report;

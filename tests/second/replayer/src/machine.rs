@@ -21,6 +21,7 @@ pub struct Place {
     pub row: Row,
     pub h: u16,
     pub t: u16,
+    /// A linked stack's u.
     pub n: u16,
 }
 
@@ -35,9 +36,9 @@ pub struct Journal {
     pub first: [u16; CELLS],
     pub last: [u16; CELLS],
     pub answer: [Answer; CELLS],
-    /// The latest T1 or R1 of a take.
+    /// The latest T1 or R1 of a take, or the W2 that ended it.
     pub start: [u16; CELLS],
-    /// The changing Q3 or P3 of a put.
+    /// The changing Q3, P3 or V4 of a put.
     pub change: [u16; CELLS],
     /// The item in whose line a take is.
     pub item: [u16; CELLS],
@@ -52,7 +53,7 @@ impl Journal {
     }
 }
 
-/// The queue or the stack: its shared memory and its listing.
+/// A queue, a stack or a linked stack: its shared memory and its listing.
 pub trait Object {
     const NAME: &'static str;
     fn fresh() -> Self;

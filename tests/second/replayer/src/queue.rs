@@ -83,7 +83,7 @@ impl Object for Queue {
                 journal.item[usize::from(own)] = n;
                 return Then::End(Answer::Item(n));
             }
-            _ => unreachable!("a row of the stack"),
+            _ => unreachable!("a row of another object"),
         })
     }
 

@@ -1,6 +1,7 @@
 //! The report of a run: a line for each operation, the record in step order, and what is left.
 
 use crate::job::{self, Action, Job, Kind, OPERATIONS, Record};
+use crate::linked::Linked;
 use crate::machine::{Answer, CELLS, Journal, Machine, NONE, Object, run};
 use crate::queue::Queue;
 use crate::stack::Stack;
@@ -16,6 +17,7 @@ pub fn replay_watched(job: &Job, memory: &mut [u8], watch: &mut impl Watch) -> u
     match job.kind {
         Kind::Queue => report(job, &run::<Queue>(job, watch), memory),
         Kind::Stack => report(job, &run::<Stack>(job, watch), memory),
+        Kind::Linked => report(job, &run::<Linked>(job, watch), memory),
     }
 }
 

@@ -76,7 +76,7 @@ impl Object for Stack {
                 set(watch, Cell::Top, &mut self.top, t, below);
                 Row::R1
             }
-            _ => unreachable!("a row of the queue"),
+            _ => unreachable!("a row of another object"),
         })
     }
 

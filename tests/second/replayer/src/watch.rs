@@ -2,7 +2,7 @@
 
 use crate::machine::Answer;
 
-/// The rows of the two listings, by their names in document 01.
+/// The rows of the three listings, by their names in documents 01 and 02.
 #[derive(Clone, Copy, PartialEq, Eq, Debug)]
 #[rustfmt::skip]
 pub enum Row {
@@ -10,11 +10,17 @@ pub enum Row {
     T1, T2, T3, T4, T5,
     P1, P2, P3, P4,
     R1, R2, R3, R4, R5,
+    V1, V2, V3, V4, V5, V6, V7, V8,
+    W1, W2, W3, W4, W5, W6, W7, W8, W9,
 }
 
-pub const ROWS: usize = 19;
+pub const ROWS: usize = 36;
 
-/// A cell of the shared memory.
+/// What a cleared flag of a linked stack's node holds; a live one holds 0.
+pub const CLEARED: u16 = 1 << 15;
+
+/// A cell of the shared memory. A linked stack's node has one cell, of which a step accesses the upper, the flag, or the whole: its content
+/// is then the sum of both.
 #[derive(Clone, Copy, PartialEq, Eq, Debug)]
 pub enum Cell {
     Head,
@@ -22,6 +28,9 @@ pub enum Cell {
     Top,
     Next(u16),
     Mark(u16),
+    Upper(u16),
+    Flag(u16),
+    Whole(u16),
 }
 
 pub trait Watch {

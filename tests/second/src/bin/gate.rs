@@ -4,8 +4,8 @@ use second::generate::STYLES;
 use second::groups::{self, Bench, bytes, every, faults, jobs, lengths, limits, outcomes, rooms, traces, values};
 use std::process::ExitCode;
 
-/// Jobs of each style, and the first seed.
-const JOBS: usize = 2_500;
+/// Jobs of each style, a third of them of each kind, and the first seed.
+const JOBS: usize = 3_750;
 const FIRST_SEED: u64 = 1;
 
 fn main() -> ExitCode {

@@ -10,7 +10,7 @@ use std::env;
 use std::process::ExitCode;
 
 const ROUNDS: usize = 200;
-const OBJECTS: [(u8, &str); 2] = [(1, "queue"), (2, "stack")];
+const OBJECTS: [(u8, &str); 3] = [(1, "queue"), (2, "stack"), (3, "linked")];
 
 /// Both ratios: one job repeated, jobs in rotation.
 type Ratios = [f64; 2];
@@ -45,22 +45,47 @@ fn files(drafts: &[Draft]) -> Vec<Vec<u8>> {
     drafts.iter().map(|draft| sealed(&draft.stream())).collect()
 }
 
-/// Full-size jobs: all 16,384 steps, and only those that act.
-fn full_size(rounds: usize) {
-    heading("Replay, 256 operations on 8 processes");
-    let (mut whole, mut only_acting) = (vec![], vec![]);
-    for (kind, object) in OBJECTS {
+/// The rows of full-size jobs: all 16,384 steps, and only those that act.
+#[derive(Default)]
+struct FullSize {
+    whole: Vec<Ratios>,
+    acting: Vec<Ratios>,
+}
+
+impl FullSize {
+    fn add(&mut self, (kind, object): (u8, &str), rounds: usize) {
         for (order, name) in [(Order::Uniform, "random"), (Order::Lockstep, "round robin"), (Order::Crowded, "crowded")] {
             let drafts = jobs(kind, OPERATIONS, STEPS, &order);
-            whole.push(row(&format!("{object}, {name}"), &drafts, &speed::replay(&files(&drafts), rounds)));
+            self.whole.push(row(&format!("{object}, {name}"), &drafts, &speed::replay(&files(&drafts), rounds)));
             let drafts = acting(&drafts);
             let name = format!("{object}, {name}, acting steps only");
-            only_acting.push(row(&name, &drafts, &speed::replay(&files(&drafts), rounds)));
+            self.acting.push(row(&name, &drafts, &speed::replay(&files(&drafts), rounds)));
         }
     }
-    mean_row("geometric mean, whole schedules", &whole);
-    mean_row("geometric mean, acting steps only", &only_acting);
-    mean_row("geometric mean of all twelve", &[whole, only_acting].concat());
+
+    fn means(&self, mean: &str) {
+        mean_row(&format!("{mean}, whole schedules"), &self.whole);
+        mean_row(&format!("{mean}, acting steps only"), &self.acting);
+    }
+
+    fn all(&self) -> Vec<Ratios> {
+        [self.whole.as_slice(), &self.acting].concat()
+    }
+}
+
+/// Queue and stack with their means, then the linked stack with its own, and the mean of all.
+fn full_size(rounds: usize) {
+    heading("Replay, 256 operations on 8 processes");
+    let [queue, stack, linked] = OBJECTS;
+    let mut two = FullSize::default();
+    two.add(queue, rounds);
+    two.add(stack, rounds);
+    two.means("geometric mean");
+    mean_row("geometric mean of all twelve", &two.all());
+    let mut third = FullSize::default();
+    third.add(linked, rounds);
+    third.means("geometric mean, linked");
+    mean_row("geometric mean of all eighteen", &[two.all(), third.all()].concat());
 }
 
 fn reading_and_writing(rounds: usize) {

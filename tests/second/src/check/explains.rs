@@ -1,5 +1,6 @@
 //! The sentences of demand 3, each on one run. "Whatever operations an accepted job lists, and whatever order of steps it gives,
-//! the record of that run has only lines that the queue or stack with multiplicity allows, each after all those before it."
+//! the record of that run has only lines that the queue or stack with multiplicity allows, each after all those before it." A
+//! linked stack's are those of a stack.
 
 use super::facts::{Facts, Operation};
 use super::parse::{Effect, Ending, Line, Report};
@@ -13,7 +14,11 @@ fn ensure(holds: bool, otherwise: impl FnOnce() -> String) -> Result<(), String>
 
 /// The operation lines: number, process, action, first, last and ending, as the steps say.
 pub fn operations(job: &Job, facts: &Facts, report: &Report) -> Result<(), String> {
-    let name = if job.kind == Kind::Queue { "queue" } else { "stack" };
+    let name = match job.kind {
+        Kind::Queue => "queue",
+        Kind::Stack => "stack",
+        Kind::Linked => "linked",
+    };
     ensure(report.object == name, || format!("object {}", report.object))?;
     ensure(report.operations.len() == job.records.len(), || "the number of operation lines".to_string())?;
     for (i, (line, record)) in report.operations.iter().zip(job.records).enumerate() {
@@ -143,14 +148,14 @@ fn present(own: usize, facts: &Facts, entries: &[Option<Entry>]) -> Result<(), S
     ensure(begun && not_over, || format!("operation {own} stands at {}, outside its steps", entry.at))
 }
 
-/// "Where an effect stands": the step of each line is the one that document 01 names.
+/// "Where an effect stands": the step of each line is the one that the papers name.
 fn stands_right(kind: Kind, facts: &Facts, line: &Line) -> Result<(), String> {
     let of = |own: &u16| &facts.operations[usize::from(*own)];
     let step = match &line.effect {
         Effect::Put(own) => of(own).change,
         Effect::Empty(own) => of(own).start,
-        Effect::Take(item, _) if kind == Kind::Queue => facts.moved[usize::from(*item)],
-        Effect::Take(_, takers) => takers.iter().filter_map(|own| of(own).start).max(),
+        Effect::Take(_, takers) if kind == Kind::Stack => takers.iter().filter_map(|own| of(own).start).max(),
+        Effect::Take(item, _) => facts.taken[usize::from(*item)],
     };
     if let Effect::Take(item, takers) = &line.effect {
         let members = takers.iter().all(|own| of(own).joined == Some(*item));

@@ -2,13 +2,14 @@
 
 use super::facts::Facts;
 use super::parse::{Effect, Report};
-use crate::watch::{Log, ROWS, Row};
+use crate::watch::{CLEARED, Event, Log, ROWS, Row};
 
 /// Each count is of runs' steps or lines; `rows` is by row and by outcome.
-#[derive(Clone, Default)]
 pub struct Seen {
-    /// A set that changed or did not; a read (or a raised mark) that found zero or something else.
+    /// A set (or a W4) that changed or did not; a read (or a raised mark) that found zero or something else.
     pub rows: [[usize; 2]; ROWS],
+    /// A W4 that found the flag cleared already.
+    pub cleared_again: usize,
     pub shared_lines: usize,
     pub lines_of_eight: usize,
     pub open_takers: usize,
@@ -16,20 +17,31 @@ pub struct Seen {
     pub idle_steps: usize,
 }
 
+impl Default for Seen {
+    fn default() -> Seen {
+        let rows = [[0; 2]; ROWS];
+        Seen { rows, cleared_again: 0, shared_lines: 0, lines_of_eight: 0, open_takers: 0, open_puts: 0, idle_steps: 0 }
+    }
+}
+
 impl Seen {
     pub fn of(log: &Log, facts: &Facts, report: &Report) -> Seen {
         let mut seen = Seen::default();
         for event in &log.events {
-            let sets =
-                matches!(event.row, Row::Q3 | Row::Q4 | Row::Q5 | Row::T4 | Row::T5 | Row::P3 | Row::P4 | Row::R4 | Row::R5);
-            let outcome = if sets { event.wrote.is_some() } else { event.held != 0 };
-            seen.rows[event.row as usize][usize::from(outcome)] += 1;
+            seen.step(event);
         }
         seen.idle_steps = usize::from(log.steps) - log.events.len();
         for line in &report.lines {
             seen.line(&line.effect, facts);
         }
         seen
+    }
+
+    fn step(&mut self, event: &Event) {
+        let clears = event.row == Row::W4;
+        let outcome = if event.aim.is_some() || clears { event.wrote.is_some() } else { event.held != 0 };
+        self.rows[event.row as usize][usize::from(outcome)] += 1;
+        self.cleared_again += usize::from(clears && event.held == CLEARED);
     }
 
     fn line(&mut self, effect: &Effect, facts: &Facts) {
@@ -49,6 +61,7 @@ impl Seen {
         for (own, more) in self.rows.as_flattened_mut().iter_mut().zip(other.rows.as_flattened()) {
             *own += more;
         }
+        self.cleared_again += other.cleared_again;
         self.shared_lines += other.shared_lines;
         self.lines_of_eight += other.lines_of_eight;
         self.open_takers += other.open_takers;
@@ -59,7 +72,8 @@ impl Seen {
     /// Whether every row went both ways and every case of the record was met.
     pub fn all(&self) -> bool {
         let rows = self.rows.as_flattened().iter().all(|&count| count > 0);
-        rows && self.shared_lines > 0
+        rows && self.cleared_again > 0
+            && self.shared_lines > 0
             && self.lines_of_eight > 0
             && self.open_takers > 0
             && self.open_puts > 0

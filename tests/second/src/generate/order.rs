@@ -1,6 +1,7 @@
 //! Orders of steps: even, uneven and hostile ones.
 
 use super::{Draft, Style};
+use crate::linked::Linked;
 use crate::machine::{Machine, Object};
 use crate::queue::Queue;
 use crate::random::Random;
@@ -17,6 +18,7 @@ pub enum Order {
     Sequential,
     Stalled,
     Gathered,
+    HeldBack,
     Crowded,
 }
 
@@ -33,13 +35,15 @@ impl Order {
             Style::Sequential => Order::Sequential,
             Style::Stalled => Order::Stalled,
             Style::Gathered => Order::Gathered,
-            _ => match random.below(7) {
+            Style::HeldBack => Order::HeldBack,
+            _ => match random.below(8) {
                 0 => Order::Uniform,
                 1 => Order::Weighted,
                 2 => Order::Lockstep,
                 3 => Order::FarBehind,
                 4 => Order::Bursts,
                 5 => Order::Crowded,
+                6 => Order::HeldBack,
                 _ => Order::Gathered,
             },
         }
@@ -60,7 +64,12 @@ impl Order {
                 let walls = std::array::from_fn(|_| random.chance(4));
                 gathered_by_kind(draft, steps, walls, random)
             }
-            Order::Crowded => gathered_by_kind(draft, steps, crowd_walls(), random),
+            Order::HeldBack => {
+                let rows = changing_rows(draft.kind);
+                let held = std::array::from_fn::<_, 2, _>(|_| *random.pick(rows));
+                gathered_by_kind(draft, steps, walls(&held), random)
+            }
+            Order::Crowded => gathered_by_kind(draft, steps, walls(changing_rows(draft.kind)), random),
         }
     }
 }
@@ -119,17 +128,30 @@ fn stalled(processes: usize, steps: usize, random: &mut Random) -> Vec<u8> {
         .collect()
 }
 
-/// The rows that change what others have read.
-fn crowd_walls() -> [bool; ROWS] {
+/// The rows that change what others have read. A linked stack's put held at V5 leaves Top behind, a take held at W5 or W6 leaves a dead
+/// node on top; those held at V4 or W4 come too late or together.
+fn changing_rows(kind: u8) -> &'static [Row] {
+    match kind {
+        1 => &[Row::Q3, Row::Q4, Row::T5],
+        2 => &[Row::P3, Row::R3, Row::R4],
+        _ => &[Row::V4, Row::V5, Row::W4, Row::W5, Row::W6],
+    }
+}
+
+fn walls(rows: &[Row]) -> [bool; ROWS] {
     let mut walls = [false; ROWS];
-    for row in [Row::Q3, Row::Q4, Row::T5, Row::P3, Row::R3, Row::R4] {
+    for &row in rows {
         walls[row as usize] = true;
     }
     walls
 }
 
 fn gathered_by_kind(draft: &Draft, steps: usize, walls: [bool; ROWS], random: &mut Random) -> Vec<u8> {
-    if draft.kind == 1 { gathered::<Queue>(draft, steps, walls, random) } else { gathered::<Stack>(draft, steps, walls, random) }
+    match draft.kind {
+        1 => gathered::<Queue>(draft, steps, walls, random),
+        2 => gathered::<Stack>(draft, steps, walls, random),
+        _ => gathered::<Linked>(draft, steps, walls, random),
+    }
 }
 
 /// Processes are gathered before certain rows and then let through in a random order, a few at a time: many hold the same old

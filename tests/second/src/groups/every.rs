@@ -1,29 +1,59 @@
-//! Every order of steps of a few small jobs, for both objects.
+//! Every order of steps of a few small jobs, for each object.
 
 use super::Bench;
 use crate::failure::kept;
 use crate::file::sealed;
-use crate::generate::{Draft, put, take};
+use crate::generate::{Draft, put, take, turns};
 use crate::job::Record;
 
+/// Operations, the steps with which every order of them begins, and how many follow in any order.
+struct Small {
+    processes: u8,
+    begun: Vec<u8>,
+    steps: usize,
+    records: Vec<Record>,
+}
+
+fn small(processes: u8, begun: &[(u8, usize)], steps: usize, records: &[Record]) -> Small {
+    Small { processes, begun: turns(begun), steps, records: records.to_vec() }
+}
+
+/// A queue's and a stack's operations are short enough to begin with nothing.
+fn short() -> Vec<Small> {
+    vec![
+        small(2, &[], 13, &[put(0, 15), take(1), put(0, 35), take(1)]),
+        small(2, &[], 12, &[put(0, 15), put(1, 15), take(0), take(1)]),
+        small(3, &[], 9, &[put(0, 15), take(1), take(2)]),
+        small(3, &[], 9, &[put(0, 15), put(1, -35), take(2)]),
+    ]
+}
+
+/// A linked stack's, from fresh memory; with one item in; with Top behind; with all before the row that decides; with a dead node on top.
+fn linked() -> Vec<Small> {
+    let put_all = (0, 5);
+    vec![
+        small(2, &[], 14, &[put(0, 15), take(1), put(0, 35), take(1)]),
+        small(2, &[put_all], 14, &[put(0, 15), take(0), take(1), put(1, 35)]),
+        small(2, &[(0, 4)], 14, &[put(0, 15), take(0), put(1, 35), take(1)]),
+        small(3, &[put_all, (0, 3), (1, 3), (2, 3)], 9, &[put(0, 15), take(0), take(1), put(2, 35)]),
+        small(3, &[put_all, (0, 3), (1, 3), (2, 3)], 9, &[put(0, 15), put(0, 25), put(1, 35), take(2)]),
+        small(3, &[put_all, (0, 4), (1, 3), (2, 3)], 9, &[put(0, 15), take(0), put(1, 35), take(2)]),
+    ]
+}
+
 pub fn schedules(bench: &mut Bench) -> Result<usize, String> {
-    let lists: [(u8, usize, Vec<Record>); 4] = [
-        (2, 13, vec![put(0, 15), take(1), put(0, 35), take(1)]),
-        (2, 12, vec![put(0, 15), put(1, 15), take(0), take(1)]),
-        (3, 9, vec![put(0, 15), take(1), take(2)]),
-        (3, 9, vec![put(0, 15), put(1, -35), take(2)]),
-    ];
     let mut count = 0;
-    for kind in [1, 2] {
-        for (processes, steps, records) in &lists {
-            let draft = Draft { kind, processes: *processes, records: records.clone(), schedule: vec![0; *steps] };
-            count += all_orders(bench, draft)?;
+    for (kind, jobs) in [(1, short()), (2, short()), (3, linked())] {
+        for Small { processes, begun, steps, records } in jobs {
+            let schedule = [begun.as_slice(), &vec![0; steps]].concat();
+            count += all_orders(bench, Draft { kind, processes, records, schedule }, begun.len())?;
         }
     }
     Ok(count)
 }
 
-fn all_orders(bench: &mut Bench, mut draft: Draft) -> Result<usize, String> {
+/// Every order of the steps behind the first `begun`.
+fn all_orders(bench: &mut Bench, mut draft: Draft, begun: usize) -> Result<usize, String> {
     let mut count = 0;
     loop {
         let stream = draft.stream();
@@ -31,7 +61,7 @@ fn all_orders(bench: &mut Bench, mut draft: Draft) -> Result<usize, String> {
         let seen = bench.compare.run(&stream, &file).map_err(|why| kept("order.job", &file, why))?;
         bench.seen.add(&seen);
         count += 1;
-        if !advance(&mut draft.schedule, draft.processes) {
+        if !advance(&mut draft.schedule[begun..], draft.processes) {
             return Ok(count);
         }
     }

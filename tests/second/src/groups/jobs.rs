@@ -56,9 +56,10 @@ pub fn of_style(bench: &mut Bench, style: Style, count: usize, first: u64) -> Re
 
 /// The jobs so far went through every row both ways and met every case of the record.
 pub fn reached(bench: &mut Bench) -> Result<usize, String> {
-    let Seen { rows, shared_lines, lines_of_eight, open_takers, open_puts, idle_steps } = &bench.seen;
+    let Seen { rows, cleared_again, shared_lines, lines_of_eight, open_takers, open_puts, idle_steps } = &bench.seen;
     println!(
-        "  lines with several takers {shared_lines}, with eight {lines_of_eight}; open takers {open_takers}, open puts {open_puts}"
+        "  lines with several takers {shared_lines}, with eight {lines_of_eight}; open takers {open_takers}, open puts {open_puts}; \
+         flags cleared again {cleared_again}"
     );
     if bench.seen.all() {
         Ok(rows.as_flattened().iter().sum::<usize>() + idle_steps)

@@ -1,4 +1,5 @@
-//! The limits of document 01: P 8 taken, 9 is 6; N 256 taken, 257 is 7; S 16,384 taken, 16,385 is 8; work 17,709 is 1.
+//! The limits of the papers: kinds 1 to 3 taken, 0 and 4 are 5; P 8 taken, 9 is 6; N 256 taken, 257 is 7; S 16,384 taken, 16,385 is 8; work
+//! 17,709 is 1.
 
 use super::Bench;
 use crate::compare::{ENOUGH, Lent};
@@ -8,6 +9,10 @@ use crate::generate::{Draft, put, take};
 fn draft(processes: u8, operations: usize, steps: usize) -> Draft {
     let record = |i: usize| if i.is_multiple_of(2) { put(0, i as i16) } else { take(0) };
     Draft { kind: 1, processes, records: (0..operations).map(record).collect(), schedule: vec![0; steps] }
+}
+
+fn full(kind: u8) -> Draft {
+    Draft { kind, ..draft(8, 256, 16_384) }
 }
 
 pub fn paper(bench: &mut Bench) -> Result<usize, String> {
@@ -20,15 +25,22 @@ pub fn paper(bench: &mut Bench) -> Result<usize, String> {
         (draft(1, 0, 1), 7),
         (draft(1, 1, 16_384), 0),
         (draft(1, 1, 16_385), 8),
-        (draft(8, 256, 16_384), 0),
+        (full(1), 0),
         (draft(8, 257, 16_385), 7),
+        (full(2), 0),
+        (full(3), 0),
+        (full(0), 5),
+        (full(4), 5),
+        (full(255), 5),
+        (Draft { kind: 4, ..draft(9, 257, 16_385) }, 5),
+        (Draft { kind: 3, ..draft(9, 257, 16_385) }, 6),
     ];
     for (i, (draft, number)) in rows.iter().enumerate() {
         let stream = draft.stream();
         expect(*number, bench.compare.file(&sealed(&stream))?.number, i)?;
         expect(*number, bench.compare.write(&stream, FILE_LIMIT)?.number, i)?;
     }
-    let file = sealed(&draft(8, 256, 16_384).stream());
+    let file = sealed(&full(1).stream());
     expect(1, bench.compare.replay(&file, Lent { work: WORK - 1, ..ENOUGH })?.number, rows.len())?;
     expect(0, bench.compare.replay(&file, ENOUGH)?.number, rows.len())?;
     Ok(rows.len() + 2)

@@ -1,4 +1,4 @@
-//! The proved traces: both sides give the report of each, and together they meet every outcome of every row of the two listings.
+//! The proved traces: both sides give the report of each, and together they meet every outcome of every row of the listings.
 
 use super::Bench;
 use super::traces::report_is;
@@ -7,7 +7,7 @@ use crate::check;
 use crate::file::sealed;
 use crate::job::Job;
 use crate::proved;
-use crate::watch::{Event, Log, ROWS, Row};
+use crate::watch::{CLEARED, Event, Log, ROWS, Row};
 
 /// What decided where a row leads, or whether it changed anything.
 #[derive(Clone, Copy, PartialEq, Eq, Debug)]
@@ -20,18 +20,21 @@ enum Way {
     /// The mark that was read.
     Clear,
     Raised,
-    /// T3: "h = t and n is none", "h = t", "else".
+    /// T3: "h = t and n is none", "h = t", "else". W2: "none with t the sentinel".
     Empty,
     Helps,
     Goes,
     /// "Set A from b to c".
     Changed,
     Kept,
+    /// The flag that was read, or that kept a V4 from linking; a W4 that cleared a live flag, and one that found it cleared already.
+    Live,
+    Cleared,
 }
 
 type Outcome = (Row, Way);
 
-/// The rows of the two listings, each with its ways: 35 outcomes.
+/// The rows of the listings, each with its ways.
 const LISTINGS: [(Row, &[Way]); ROWS] = [
     (Row::Q1, &[Way::Always]),
     (Row::Q2, &[Way::None, Way::Node]),
@@ -52,9 +55,26 @@ const LISTINGS: [(Row, &[Way]); ROWS] = [
     (Row::R3, &[Way::Always]),
     (Row::R4, &[Way::Changed, Way::Kept]),
     (Row::R5, &[Way::Changed, Way::Kept]),
+    (Row::V1, &[Way::Always]),
+    (Row::V2, &[Way::None, Way::Node]),
+    (Row::V3, &[Way::Live, Way::Cleared]),
+    (Row::V4, &[Way::Changed, Way::Node, Way::Cleared]),
+    (Row::V5, &[Way::Changed, Way::Kept]),
+    (Row::V6, &[Way::Changed, Way::Kept]),
+    (Row::V7, &[Way::Changed, Way::Kept]),
+    (Row::V8, &[Way::Changed, Way::Kept]),
+    (Row::W1, &[Way::Always]),
+    (Row::W2, &[Way::Empty, Way::None, Way::Node]),
+    (Row::W3, &[Way::Live, Way::Cleared]),
+    (Row::W4, &[Way::Live, Way::Cleared, Way::Node]),
+    (Row::W5, &[Way::Changed, Way::Kept]),
+    (Row::W6, &[Way::Changed, Way::Kept]),
+    (Row::W7, &[Way::Changed, Way::Kept]),
+    (Row::W8, &[Way::Changed, Way::Kept]),
+    (Row::W9, &[Way::Changed, Way::Kept]),
 ];
 
-const OUTCOMES: usize = 35;
+const OUTCOMES: usize = 70;
 
 fn outcomes() -> impl Iterator<Item = Outcome> {
     LISTINGS.into_iter().flat_map(|(row, ways)| ways.iter().map(move |&way| (row, way)))
@@ -65,14 +85,18 @@ fn way(log: &Log, event: &Event) -> Way {
     let choose = |holds: bool, yes: Way, no: Way| if holds { yes } else { no };
     let nothing = event.held == 0;
     match event.row {
-        Row::Q1 | Row::T1 | Row::T2 | Row::R3 => Way::Always,
-        Row::Q2 | Row::P1 | Row::R1 => choose(nothing, Way::None, Way::Node),
+        Row::Q1 | Row::T1 | Row::T2 | Row::R3 | Row::V1 | Row::W1 => Way::Always,
+        Row::W2 if event.answer.is_some() => Way::Empty,
+        Row::Q2 | Row::P1 | Row::R1 | Row::V2 | Row::W2 => choose(nothing, Way::None, Way::Node),
         Row::P2 | Row::R2 => choose(nothing, Way::Clear, Way::Raised),
         Row::T3 if latest(log, event, Row::T1) != latest(log, event, Row::T2) => Way::Goes,
         Row::T3 => choose(nothing, Way::Empty, Way::Helps),
-        Row::Q3 | Row::Q4 | Row::Q5 | Row::T4 | Row::T5 | Row::P3 | Row::P4 | Row::R4 | Row::R5 => {
-            choose(event.wrote.is_some(), Way::Changed, Way::Kept)
-        }
+        Row::V3 | Row::W3 => choose(nothing, Way::Live, Way::Cleared),
+        // a cell is a node and live, or none and cleared, or 0
+        Row::V4 if event.wrote.is_none() => choose(event.held == CLEARED, Way::Cleared, Way::Node),
+        Row::W4 if event.wrote.is_none() => Way::Node,
+        Row::W4 => choose(nothing, Way::Live, Way::Cleared),
+        _ => choose(event.wrote.is_some(), Way::Changed, Way::Kept),
     }
 }
 

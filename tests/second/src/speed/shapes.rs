@@ -2,6 +2,7 @@
 
 use crate::generate::order::Order;
 use crate::generate::{Draft, put, take};
+use crate::linked::Linked;
 use crate::machine::{Machine, Object};
 use crate::queue::Queue;
 use crate::random::Random;
@@ -33,7 +34,11 @@ pub fn job(kind: u8, operations: usize, steps: usize, order: &Order, seed: u64) 
 
 /// The same jobs without their idle steps.
 pub fn acting(drafts: &[Draft]) -> Vec<Draft> {
-    let steps = |draft: &Draft| if draft.kind == 1 { acting_steps::<Queue>(draft) } else { acting_steps::<Stack>(draft) };
+    let steps = |draft: &Draft| match draft.kind {
+        1 => acting_steps::<Queue>(draft),
+        2 => acting_steps::<Stack>(draft),
+        _ => acting_steps::<Linked>(draft),
+    };
     drafts.iter().map(|draft| Draft { schedule: steps(draft), ..draft.clone() }).collect()
 }
 

@@ -18,8 +18,7 @@ function chip(item, more, kind, parent) {
 }
 
 function tellLists() {
-  const end = { queue: ", front first", stack: ", top first" }[run.object] || "";
-  byId("left-head").textContent = "Left at the end" + (run.left.length ? " (" + count(run.left.length) + end + ")" : "");
+  byId("left-head").textContent = "Left at the end" + (run.left.length ? " (" + count(run.left.length) + ", " + run.end + " first)" : "");
   for (const item of run.left) chip(item, "", "left", byId("left"));
   if (run.left.length === 0) html("p", "nothing is left", byId("left"));
   byId("doubles-head").textContent = "Doubles" + (index.doubles.length ? " (" + count(index.doubles.length) + ", in the order of the record)" : "");
