@@ -1,4 +1,4 @@
-// The fourteen accesses of the step table, a function for each: what a row does to shared memory and to the registers of its
+// The 21 accesses of the step table, a function for each: what a row does to shared memory and to the registers of its
 // operation. Document 01: "A step is one read, one write or one compare-and-set of shared memory, with the private work after it."
 use job::Operation;
 use machine::Event;
@@ -6,24 +6,34 @@ use machine::Outcome;
 use rows::MARK;
 use rows::NEXT;
 use rows::NODES;
+use rows::UPPER;
 use rows::cell;
 use rows::store;
 ghost use mathlib.Core.Path.{_≡_};
 ghost use Prim.Native.Nat.{ℕ};
-ghost use Rattle.machine.specs.declared.Access.the-variants.{ReadHead, ReadTail, ReadNextOfH, ReadNextOfT, Link, TailToOwn, TailToN, HeadToN, ReadTopToPut, ReadTopToTake, ReadMark, Push, RaiseMark, TopToNext};
+ghost use Rattle.machine.specs.declared.Access.the-variants.{ReadHead, ReadTail, ReadNextOfH, ReadNextOfT, Link, TailToOwn, TailToN, HeadToN, ReadTop, ReadTopToTake, ReadMark, Push, RaiseMark, TopToNext, ReadUpper, ReadUpperToTake, LinkAbove, TopToOwn, TopToN, Cut, ClearFlag};
 ghost use Rattle.basics.specs.Choice.{same};
-ghost use Rattle.rows.specs.Nodes.{HasNodes};
+ghost use Rattle.rows.specs.Nodes.{nexts, HasNodes};
 ghost use Rattle.machine.specs.Memory.{set-from-to, yes-if};
 ghost use Rattle.access.specs.View.{Does, Does-alone, answered};
 
 // no node
 const NONE: u16 = 0;
 
+// the node below all others of a two-way linked stack
+const SENTINEL: u16 = 0;
+
 // a mark that is clear
 const CLEAR: u16 = 0;
 
 // a mark that is raised
 const RAISED: u16 = 1;
+
+// a flag that is live; the flag of a node stands where a mark stands
+const LIVE: u16 = 0;
+
+// a flag that is cleared
+const CLEARED: u16 = 1;
 
 // The registers of the operation that makes a step, and the cells of shared memory that are no node's.
 pub struct Scalars {
@@ -165,9 +175,9 @@ pub fn head_to_n(mut c: Scalars) -> Accessed
     answer(c, Outcome::No, Event::Late(c.n))
 }
 
-// "P1 read Top as t: none, P3; else P2."
-pub fn read_top_to_put(mut c: Scalars) -> Accessed
-    ensures { λ d. ⌜ ((own : ℕ) → Does-alone ReadTopToPut own c d) ⌝ }
+// "P1 read Top as t: none, P3; else P2." "V1 read Top as t." W1 reads as V1.
+pub fn read_top(mut c: Scalars) -> Accessed
+    ensures { λ d. ⌜ ((own : ℕ) → Does-alone ReadTop own c d) ⌝ }
 {
     c.t = c.top;
     let outcome = yes_if_same(c.top, NONE);
@@ -185,7 +195,7 @@ pub fn read_top_to_take(mut c: Scalars) -> Accessed
     answer(c, Outcome::Yes, Event::Round)
 }
 
-// "P2 read t's mark: clear, P3; else P4." "R2 read t's mark: clear, R3; else R5."
+// "P2 read t's mark: clear, P3; else P4." "R2 read t's mark: clear, R3; else R5." V3 and W3 "read t's flag: live".
 pub fn read_mark(c: Scalars, nodes: &[u16]) -> Accessed
     requires { ⌜ HasNodes (c .t) (now nodes) ⌝ }
     ensures { λ d. ⌜ ((own : ℕ) → Does ReadMark own c (now (nodes .entry)) d (now (nodes .entry))) ⌝ }
@@ -216,7 +226,7 @@ pub fn raise_mark(c: Scalars, nodes: &mut [u16]) -> Accessed
     answer(c, Outcome::Yes, Event::Raised(c.t))
 }
 
-// "P4", "R4" and "R5 set Top from t to t's next"
+// "P4", "R4" and "R5 set Top from t to t's next"; "V8 set Top from t to the lower", and W6 and W9 act as V8
 pub fn top_to_next(mut c: Scalars, nodes: &[u16]) -> Accessed
     requires { ⌜ HasNodes (c .t) (now nodes) ⌝ }
     ensures { λ d. ⌜ ((own : ℕ) → Does TopToNext own c (now (nodes .entry)) d (now (nodes .entry))) ⌝ }
@@ -224,4 +234,91 @@ pub fn top_to_next(mut c: Scalars, nodes: &[u16]) -> Accessed
     let outcome = yes_if_same(c.top, c.t);
     c.top = set_from_to(c.top, c.t, cell(nodes, NODES, c.t, NEXT));
     answer(c, outcome, Event::Quiet)
+}
+
+// "V2 read t's upper as u: none, V3; else V6."; u is register n
+pub fn read_upper(mut c: Scalars, nodes: &[u16]) -> Accessed
+    requires { ⌜ HasNodes (c .t) (now nodes) ⌝ }
+    ensures { λ d. ⌜ ((own : ℕ) → Does ReadUpper own c (now (nodes .entry)) d (now (nodes .entry))) ⌝ }
+{
+    c.n = cell(nodes, NODES, c.t, UPPER);
+    let outcome = yes_if_same(c.n, NONE);
+    answer(c, outcome, Event::Quiet)
+}
+
+// W2 reads as V2: "u not none, W8; none with t the sentinel, end empty; else W3."
+pub fn read_upper_to_take(mut c: Scalars, nodes: &[u16]) -> Accessed
+    requires { ⌜ HasNodes (c .t) (now nodes) ⌝ }
+    ensures { λ d. ⌜ ((own : ℕ) → Does ReadUpperToTake own c (now (nodes .entry)) d (now (nodes .entry))) ⌝ }
+{
+    c.n = cell(nodes, NODES, c.t, UPPER);
+    if c.n != NONE {
+        return answer(c, Outcome::No, Event::Round);
+    }
+    if c.t == SENTINEL {
+        return answer(c, Outcome::Bare, Event::Round);
+    }
+    answer(c, Outcome::Yes, Event::Round)
+}
+
+// "V4 if t's cell is none and live, link the own node there with lower t"
+pub fn link_above(own: Operation, c: Scalars, nodes: &mut [u16]) -> Accessed
+    requires { ⌜ HasNodes (c .t) (now nodes) × HasNodes (own .0) (now nodes) ⌝ }
+    ensures { λ d. ⌜ Does LinkAbove (own .0) c (now (nodes .entry)) d (now (nodes .exit)) ⌝ }
+{
+    if cell(nodes, NODES, c.t, UPPER) != NONE {
+        return answer(c, Outcome::No, Event::Quiet);
+    }
+    if cell(nodes, NODES, c.t, MARK) != LIVE {
+        return answer(c, Outcome::No, Event::Quiet);
+    }
+    store(nodes, NODES, c.t, UPPER, own.0);
+    store(nodes, NODES, own.0, NEXT, c.t);
+    answer(c, Outcome::Yes, Event::Linked)
+}
+
+// "V5 set Top from t to the own node"
+pub fn top_to_own(own: Operation, mut c: Scalars) -> Accessed
+    ensures { λ d. ⌜ Does-alone TopToOwn (own .0) c d ⌝ }
+{
+    let outcome = yes_if_same(c.top, c.t);
+    c.top = set_from_to(c.top, c.t, own.0);
+    answer(c, outcome, Event::Quiet)
+}
+
+// "V6 set Top from t to u", and W8 acts as V6
+pub fn top_to_n(mut c: Scalars) -> Accessed
+    ensures { λ d. ⌜ ((own : ℕ) → Does-alone TopToN own c d) ⌝ }
+{
+    let outcome = yes_if_same(c.top, c.t);
+    c.top = set_from_to(c.top, c.t, c.n);
+    answer(c, outcome, Event::Quiet)
+}
+
+// "V7 if the lower's cell is t and live, make its upper none.", and W5 and W7 act as V7
+pub fn cut(c: Scalars, nodes: &mut [u16]) -> Accessed
+    requires { ⌜ HasNodes (c .t) (now nodes) × HasNodes (nexts (now nodes) (c .t)) (now nodes) ⌝ }
+    ensures { λ d. ⌜ ((own : ℕ) → Does Cut own c (now (nodes .entry)) d (now (nodes .exit))) ⌝ }
+{
+    let lower = cell(nodes, NODES, c.t, NEXT);
+    if cell(nodes, NODES, lower, UPPER) != c.t {
+        return answer(c, Outcome::No, Event::Quiet);
+    }
+    if cell(nodes, NODES, lower, MARK) != LIVE {
+        return answer(c, Outcome::No, Event::Quiet);
+    }
+    store(nodes, NODES, lower, UPPER, NONE);
+    answer(c, Outcome::Yes, Event::Quiet)
+}
+
+// "W4 if t's upper is none, clear the flag, cleared already or not"
+pub fn clear_flag(c: Scalars, nodes: &mut [u16]) -> Accessed
+    requires { ⌜ HasNodes (c .t) (now nodes) ⌝ }
+    ensures { λ d. ⌜ ((own : ℕ) → Does ClearFlag own c (now (nodes .entry)) d (now (nodes .exit))) ⌝ }
+{
+    if cell(nodes, NODES, c.t, UPPER) == NONE {
+        store(nodes, NODES, c.t, MARK, CLEARED);
+        return answer(c, Outcome::Yes, Event::Moved(c.t));
+    }
+    answer(c, Outcome::No, Event::Quiet)
 }

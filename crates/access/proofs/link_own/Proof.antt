@@ -17,7 +17,7 @@ unfolding access have-set reached-from reached-by memory-of event-of with-next y
 returns c =
     let stored = next-stored _ _ _ _ (c .before .before .before .store .ensures) in
     let none = equal-same (sym (c .before .before .before .before .before .before .cell .ensures) ∙ c .before .before .before .before .before .if1 .taken) in
-    rw (c .answer .ensures) (record { reaches = rw (none, stored .0, stored .1); tells = refl })
+    rw (c .answer .ensures) (record { reaches = rw (none, stored .0, stored .1, stored .2); tells = refl })
 
 returns-2 : tie.Need-returns-2
 unfolding access have-set reached-from reached-by memory-of event-of with-next yes-if pick

@@ -17,7 +17,7 @@ unfolding access have-set reached-from reached-by memory-of event-of with-next w
 returns c =
     let stored = next-stored _ _ _ _ (c .before .before .before .store .ensures) in
     rw (c .answer .ensures)
-    (record { reaches = rw (equal-same (c .before .before .before .before .before .if1 .taken), stored .0, stored .1); tells = refl })
+    (record { reaches = rw (equal-same (c .before .before .before .before .before .if1 .taken), stored .0, stored .1, stored .2); tells = refl })
 
 returns-2 : tie.Need-returns-2
 unfolding access have-set reached-from reached-by memory-of event-of with-next with-top set-from-to yes-if pick

@@ -15,7 +15,7 @@ unfolding access have-set reached-from reached-by memory-of event-of with-mark
 returns c =
     λ own.
     let stored = mark-stored _ _ _ _ (c .before .before .before .store .ensures) in
-    rw (c .answer .ensures) (record { reaches = rw (stored .0, stored .1); tells = refl })
+    rw (c .answer .ensures) (record { reaches = rw (stored .0, stored .1, stored .2); tells = refl })
 
 pub raise-mark-spec : {M : Type 1} → statement M
 raise-mark-spec =
