@@ -33,7 +33,7 @@ fn store_later(ops: &mut [u16], i: u16, f: usize, k: Step)
     }
 }
 
-// T5 moved Head: the operation took the item, whose line stands at the first such step.
+// T5 moved Head, or W4 cleared a flag: the operation took the item, whose line stands at the first such step.
 fn note_move(n: u16, o: Operation, k: Step, ops: &mut [u16])
     requires { ⌜ HasOps (o .0) (now ops) × HasOps n (now ops) ⌝ }
     ensures { λ _. ⌜ cells (now (ops .exit)) ≡ stored Stands n (earlier (cells (now (ops .entry)) Stands n) (k .0)) (stored Taken (o .0) n (cells (now (ops .entry)))) ⌝ }

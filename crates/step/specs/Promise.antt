@@ -2,7 +2,7 @@
 use mathlib.Core.Path.{_≡_}
 use Prim.Native.Nat.{ℕ}
 use mathlib.Core.List.{List}
-use Rattle.rows.specs.Nodes.{HasNodes}
+use Rattle.rows.specs.Nodes.{nexts, HasNodes}
 use Rattle.machine.specs.declared.Access.{Access}
 use Rattle.machine.specs.declared.Event.{Event}
 use Rattle.machine.specs.declared.Place.{Place}
@@ -13,11 +13,12 @@ use Rattle.access.specs.Nodes.{memory-of}
 use Rattle.access.specs.View.{reached-from}
 use Rattle.step.specs.declared.Stepped.{Stepped}
 
--- the own node, h and t have rows
+-- the own node, h, t and t's next, which a cut reads, have rows
 pub record Inside (own h t : ℕ) (nodes : List ℕ) : Type 0 where
   pub own-row : HasNodes own nodes
   pub h-row : HasNodes h nodes
   pub t-row : HasNodes t nodes
+  pub next-row : HasNodes (nexts nodes t) nodes
 
 -- what access `a` of operation `own` is for the record
 unfoldable pub heard : Access → ℕ → Scalars → List ℕ → Event

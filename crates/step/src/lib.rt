@@ -2,7 +2,10 @@
 // shared memory, with the private work after it."
 use access::Accessed;
 use access::Scalars;
+use access::clear_flag;
+use access::cut;
 use access::head_to_n;
+use access::link_above;
 use access::link_own;
 use access::push;
 use access::raise_mark;
@@ -11,11 +14,15 @@ use access::read_mark;
 use access::read_next_of_h;
 use access::read_next_of_t;
 use access::read_tail;
-use access::read_top_to_put;
+use access::read_top;
 use access::read_top_to_take;
+use access::read_upper;
+use access::read_upper_to_take;
 use access::tail_to_n;
 use access::tail_to_own;
+use access::top_to_n;
 use access::top_to_next;
+use access::top_to_own;
 use job::Operation;
 use job::Step;
 use journal::note;
@@ -75,12 +82,19 @@ fn perform(
         Access::TailToOwn => logged(tail_to_own(own, c), own, k, ops),
         Access::TailToN => logged(tail_to_n(c), own, k, ops),
         Access::HeadToN => logged(head_to_n(c), own, k, ops),
-        Access::ReadTopToPut => logged(read_top_to_put(c), own, k, ops),
+        Access::ReadTop => logged(read_top(c), own, k, ops),
         Access::ReadTopToTake => logged(read_top_to_take(c), own, k, ops),
         Access::ReadMark => logged(read_mark(c, nodes), own, k, ops),
         Access::Push => logged(push(own, c, nodes), own, k, ops),
         Access::RaiseMark => logged(raise_mark(c, nodes), own, k, ops),
         Access::TopToNext => logged(top_to_next(c, nodes), own, k, ops),
+        Access::ReadUpper => logged(read_upper(c, nodes), own, k, ops),
+        Access::ReadUpperToTake => logged(read_upper_to_take(c, nodes), own, k, ops),
+        Access::LinkAbove => logged(link_above(own, c, nodes), own, k, ops),
+        Access::TopToOwn => logged(top_to_own(own, c), own, k, ops),
+        Access::TopToN => logged(top_to_n(c), own, k, ops),
+        Access::Cut => logged(cut(c, nodes), own, k, ops),
+        Access::ClearFlag => logged(clear_flag(c, nodes), own, k, ops),
     }
 }
 

@@ -87,12 +87,12 @@ returns-8 c =
 logged-requires-9 : tie.Need-logged-requires-9
 logged-requires-9 c κs =
     let arm = c .before in
-    room (arm .before .enum-told9 .given .1) (arm .read-top-to-put .ensures _ _) (arm .before .before .before .before .before .pre .1)
+    room (arm .before .enum-told9 .given .1) (arm .read-top .ensures _ _) (arm .before .before .before .before .before .pre .1)
 
 returns-9 : tie.Need-returns-9
 returns-9 c =
     let arm = c .before .before .before .before in
-    done-and-noted (arm .before .enum-told9 .given .1) (arm .read-top-to-put .ensures _ _) _ _ (c .before .before .logged9 .ensures)
+    done-and-noted (arm .before .enum-told9 .given .1) (arm .read-top .ensures _ _) _ _ (c .before .before .logged9 .ensures)
 
 logged-requires-10 : tie.Need-logged-requires-10
 logged-requires-10 c κs =
@@ -144,6 +144,76 @@ returns-14 c =
     let arm = c .before .before .before .before in
     done-and-noted (arm .before .before .enum-told14 .given .1) (arm .top-to-next .ensures _) _ _ (c .before .before .logged14 .ensures)
 
+logged-requires-15 : tie.Need-logged-requires-15
+logged-requires-15 c κs =
+    let arm = c .before in
+    room (arm .before .before .enum-told15 .given .1) (arm .read-upper .ensures _) (arm .before .before .before .before .before .before .pre .1)
+
+returns-15 : tie.Need-returns-15
+returns-15 c =
+    let arm = c .before .before .before .before in
+    done-and-noted (arm .before .before .enum-told15 .given .1) (arm .read-upper .ensures _) _ _ (c .before .before .logged15 .ensures)
+
+logged-requires-16 : tie.Need-logged-requires-16
+logged-requires-16 c κs =
+    let arm = c .before in
+    room (arm .before .before .enum-told16 .given .1) (arm .read-upper-to-take .ensures _) (arm .before .before .before .before .before .before .pre .1)
+
+returns-16 : tie.Need-returns-16
+returns-16 c =
+    let arm = c .before .before .before .before in
+    done-and-noted (arm .before .before .enum-told16 .given .1) (arm .read-upper-to-take .ensures _) _ _ (c .before .before .logged16 .ensures)
+
+logged-requires-17 : tie.Need-logged-requires-17
+logged-requires-17 c κs =
+    let arm = c .before .before .before in
+    room (arm .before .before .enum-told17 .given .1) (arm .link-above .ensures) (arm .before .before .before .before .before .before .pre .1)
+
+returns-17 : tie.Need-returns-17
+returns-17 c =
+    let arm = c .before .before .before .before .before .before in
+    done-and-noted (arm .before .before .enum-told17 .given .1) (arm .link-above .ensures) _ _ (c .before .before .logged17 .ensures)
+
+logged-requires-18 : tie.Need-logged-requires-18
+logged-requires-18 c κs =
+    let arm = c .before in
+    room (arm .before .enum-told18 .given .1) (arm .top-to-own .ensures _) (arm .before .before .before .before .before .pre .1)
+
+returns-18 : tie.Need-returns-18
+returns-18 c =
+    let arm = c .before .before .before .before in
+    done-and-noted (arm .before .enum-told18 .given .1) (arm .top-to-own .ensures _) _ _ (c .before .before .logged18 .ensures)
+
+logged-requires-19 : tie.Need-logged-requires-19
+logged-requires-19 c κs =
+    let arm = c .before in
+    room (arm .before .enum-told19 .given .1) (arm .top-to-n .ensures _ _) (arm .before .before .before .before .before .pre .1)
+
+returns-19 : tie.Need-returns-19
+returns-19 c =
+    let arm = c .before .before .before .before in
+    done-and-noted (arm .before .enum-told19 .given .1) (arm .top-to-n .ensures _ _) _ _ (c .before .before .logged19 .ensures)
+
+logged-requires-20 : tie.Need-logged-requires-20
+logged-requires-20 c κs =
+    let arm = c .before .before .before in
+    room (arm .before .before .enum-told20 .given .1) (arm .cut .ensures _) (arm .before .before .before .before .before .before .pre .1)
+
+returns-20 : tie.Need-returns-20
+returns-20 c =
+    let arm = c .before .before .before .before .before .before in
+    done-and-noted (arm .before .before .enum-told20 .given .1) (arm .cut .ensures _) _ _ (c .before .before .logged20 .ensures)
+
+logged-requires-21 : tie.Need-logged-requires-21
+logged-requires-21 c κs =
+    let arm = c .before .before .before in
+    room (arm .before .before .enum-told21 .given .1) (arm .clear-flag .ensures _) (arm .before .before .before .before .before .before .pre .1)
+
+returns-21 : tie.Need-returns-21
+returns-21 c =
+    let arm = c .before .before .before .before .before .before in
+    done-and-noted (arm .before .before .enum-told21 .given .1) (arm .clear-flag .ensures _) _ _ (c .before .before .logged21 .ensures)
+
 pub perform-spec : {M : Type 1} → statement M
 perform-spec =
     tie.close
@@ -156,9 +226,16 @@ perform-spec =
     logged-requires-9 (λ c. search needs) (λ c κs. search needs) logged-requires-10 (λ c. search needs)
     (λ c κs. search needs) logged-requires-11 (λ c. search needs) (λ c κs. search needs) logged-requires-12
     (λ c. search needs) (λ c κs. search needs) logged-requires-13 (λ c. search needs) (λ c κs. search needs)
-    logged-requires-14 (λ c. search needs) returns (λ c. search needs) returns-2 (λ c. search needs) (λ c. search needs)
-    returns-3 (λ c. search needs) (λ c. search needs) returns-4 (λ c. search needs) (λ c. search needs) returns-5
-    (λ c. search needs) returns-6 (λ c. search needs) returns-7 (λ c. search needs) returns-8 (λ c. search needs) returns-9
-    (λ c. search needs) returns-10 (λ c. search needs) (λ c. search needs) returns-11 (λ c. search needs)
+    logged-requires-14 (λ c. search needs) (λ c κs. search needs) logged-requires-15 (λ c. search needs)
+    (λ c κs. search needs) logged-requires-16 (λ c. search needs) (λ c κs. search needs) logged-requires-17
+    (λ c. search needs) (λ c κs. search needs) logged-requires-18 (λ c. search needs) (λ c κs. search needs)
+    logged-requires-19 (λ c. search needs) (λ c κs. search needs) logged-requires-20 (λ c. search needs)
+    (λ c κs. search needs) logged-requires-21 (λ c. search needs) returns (λ c. search needs) returns-2 (λ c. search needs)
+    (λ c. search needs) returns-3 (λ c. search needs) (λ c. search needs) returns-4 (λ c. search needs) (λ c. search needs)
+    returns-5 (λ c. search needs) returns-6 (λ c. search needs) returns-7 (λ c. search needs) returns-8 (λ c. search needs)
+    returns-9 (λ c. search needs) returns-10 (λ c. search needs) (λ c. search needs) returns-11 (λ c. search needs)
     (λ c. search needs) returns-12 (λ c. search needs) (λ c. search needs) returns-13 (λ c. search needs)
-    (λ c. search needs) returns-14)
+    (λ c. search needs) returns-14 (λ c. search needs) (λ c. search needs) returns-15 (λ c. search needs)
+    (λ c. search needs) returns-16 (λ c. search needs) (λ c. search needs) returns-17 (λ c. search needs) returns-18
+    (λ c. search needs) returns-19 (λ c. search needs) (λ c. search needs) returns-20 (λ c. search needs)
+    (λ c. search needs) returns-21)
