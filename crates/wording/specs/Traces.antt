@@ -1,5 +1,5 @@
 -- Traces, as one table of jobs and whole reports: those that document 01 marks M ("M is proved"), as document 02 has them, and behind them
--- eleven of our own, six of them of the two-way linked stack, of which document 02 has no trace, so that every outcome of every row happens in
+-- twelve of our own, seven of them of the two-way linked stack, of which document 02 has no trace, so that every outcome of every row happens in
 -- some trace. The reports are worked out from the papers by hand.
 -- `traces-proved` says that the definitions accept every job and give its report, by computation.
 use mathlib.Core.Path.{_≡_, refl}
@@ -171,6 +171,12 @@ traces =
     ∷ record {
       job = stream 3 2 (put 0 500 ∷ take 1 ∷ take 1 ∷ []) (0 ∷ 0 ∷ 0 ∷ 0 ∷ 1 ∷ 1 ∷ 1 ∷ 1 ∷ 1 ∷ 1 ∷ 1 ∷ 1 ∷ 1 ∷ 0 ∷ 1 ∷ 1 ∷ 1 ∷ 1 ∷ 1 ∷ 1 ∷ 1 ∷ []);
       expected = "object linked\nop 1 process 0 put 50 first 1 last 14 done\nop 2 process 1 take first 5 last 13 item 1 value 50\nop 3 process 1 take first 15 last 21 empty\nat 4 put 1\nat 11 take 1 by 2\nat 21 empty by 3\nleft 0\n";
+    }
+    -- A take that is helped and comes late: put 3 cuts its node off and links its own on the sentinel, so W5 finds another upper there, which stays, and W6
+    -- finds Top moved.
+    ∷ record {
+      job = stream 3 2 (put 0 500 ∷ take 1 ∷ put 0 600 ∷ []) (0 ∷ 0 ∷ 0 ∷ 0 ∷ 0 ∷ 1 ∷ 1 ∷ 1 ∷ 1 ∷ 0 ∷ 0 ∷ 0 ∷ 0 ∷ 0 ∷ 0 ∷ 0 ∷ 0 ∷ 0 ∷ 0 ∷ 1 ∷ 1 ∷ []);
+      expected = "object linked\nop 1 process 0 put 50 first 1 last 5 done\nop 2 process 1 take first 6 last 21 item 1 value 50\nop 3 process 0 put 60 first 10 last 19 done\nat 4 put 1\nat 9 take 1 by 2\nat 18 put 3\nleft 1 3\n";
     }
     ∷ []
 

@@ -60,18 +60,17 @@ impl Object for Linked {
         }
     }
 
-    /// The live nodes upward from the sentinel; they are listed from the topmost down.
-    fn left(&self, mut item: impl FnMut(u16)) {
-        let mut node = SENTINEL;
-        while self.upper(node) != NONE {
+    /// The live nodes upward from the sentinel; they are listed top first.
+    fn left(&self, item: impl FnMut(u16)) {
+        let mut nodes = Vec::new();
+        let mut node = self.upper(SENTINEL);
+        while node != NONE {
+            if self.cell[usize::from(node)] & CLEARED == 0 {
+                nodes.push(node);
+            }
             node = self.upper(node);
         }
-        while node != SENTINEL {
-            if self.cell[usize::from(node)] & CLEARED == 0 {
-                item(node);
-            }
-            node = self.lower[usize::from(node)];
-        }
+        nodes.into_iter().rev().for_each(item);
     }
 }
 
