@@ -9,7 +9,7 @@ use lib.ListN.{length, getD, set}
 use Rattle.basics.proofs.Choice.{lt-less, le-less}
 use Rattle.rows.specs.Rows as Rows
 use Rattle.rows.specs.Rows.{column}
-use Rattle.rows.specs.Nodes.{node-width}
+use Rattle.rows.specs.Nodes.{node-width, nexts}
 use Rattle.rows.specs.Operations.{cells}
 use Rattle.rows.proofs.Operations.{by-column}
 use Rattle.job.specs.declared.Heading.{Heading}
@@ -56,7 +56,7 @@ pub ran-at-start : (j : Job) {head tail top : ℕ} {nodes ops by : List ℕ} →
 unfolding state-after fresh-state fresh-memory memory-of column
 ran-at-start j {ops = ops} h t p b =
     record {
-      memory = λ i. record { head = h i; tail = t i; top = p i; next = λ x. b .no-node (Rows.place node-width x 0) i; mark = λ x. b .no-node (Rows.place node-width x 1) i };
+      memory = λ i. record { head = h i; tail = t i; top = p i; next = λ x. b .no-node (Rows.place node-width x 0) i; mark = λ x. b .no-node (Rows.place node-width x 1) i; upper = λ x. b .no-node (Rows.place node-width x 2) i };
       journal =
           record {
             agrees =
@@ -148,6 +148,11 @@ module _ {stream : List ℕ} {job : Heading} (r : Runnable stream job) {k : ℕ}
       subst (λ n. item-of (acted place (reached m place) .event) ≤ n) (sym (its-count r))
       (item-within (j .count) (reached m place .registers) (w .own) _ _)
 
+  -- the next of t is a node
+  next-in : nexts nodes (place .t) ≤ job .count
+  unfolding m memory-of
+  next-in = subst (λ n. nexts nodes (place .t) ≤ n) (sym (its-count r)) (m-within .next (place .t))
+
   -- all that the step needs is there
   pub makes : Room nodes₀ ops₀ by₀ → place .operation .0 ≤ job .count → Makes place (k + 1) head tail top nodes ops by
   unfolding registers
@@ -162,6 +167,7 @@ module _ {stream : List ℕ} {job : Heading} (r : Runnable stream job) {k : ℕ}
               own-row = omega (arith, few r, room .of-nodes);
               h-row = omega (arith, few r, w .own .h, room .of-nodes);
               t-row = omega (arith, few r, w .own .t, room .of-nodes);
+              next-row = omega (arith, few r, next-in, room .of-nodes);
             };
         noting = record { own-row = omega (arith, few r, room .of-ops); item-row = omega (arith, few r, item, room .of-ops) };
         entering = omega (arith, short r, room .of-steps);
