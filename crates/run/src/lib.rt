@@ -49,7 +49,8 @@ impl Object {
     // A cell for each step; step 0 is none.
     pub const STEPS: usize = Limits::STEPS + 1;
 
-    // "A fresh queue has Head and Tail at node 0 and every next none; a fresh stack has Top none and every mark clear."
+    // "A fresh queue has Head and Tail at node 0 and every next none; a fresh stack has Top none and every mark clear." Of the two-way
+    // linked stack: "Top starts there", at sentinel 0.
     pub fn fresh() -> Self
         ensures { λ r. ⌜ (r .head ≡ fresh-memory .head) × (r .tail ≡ fresh-memory .tail) × (r .top ≡ fresh-memory .top) ⌝ }
     {
