@@ -173,7 +173,7 @@ static size_t stack_of(int (*make)(struct Room *)) {
 static void stack_used(void) {
     size_t replay = stack_of(replays), read = stack_of(reads), write = stack_of(writes);
     printf("stack used: replay %zu, read %zu, write %zu bytes\n", replay, read, write);
-    expect(replay < 39000, "a replay uses some 38 KB of stack");
+    expect(replay < 38 * 1024 + 512, "a replay uses some 38 KB of stack");
     expect(replay + 26000 <= BENCH_STACK, "BENCH_STACK leaves 16 KB for the caller, and 10 KB for the thread and the dynamic linker");
     expect(read < 1000 && write < 1000, "a read or a write uses less than 1 KB of stack");
 }

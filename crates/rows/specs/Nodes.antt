@@ -4,9 +4,9 @@ use mathlib.Core.List.{List}
 use Rattle.basics.specs.Maps.{at}
 use Rattle.rows.specs.Rows.{column, HasRows}
 
--- how many columns a node's row has
+-- how wide a node's row is: three columns and a free cell
 abbrev pub node-width : ℕ
-node-width = 3
+node-width = 4
 
 -- the nodes' nexts
 abbrev pub nexts : List ℕ → ℕ → ℕ

@@ -1,4 +1,4 @@
-// Rows of cells in one lent list: a row for each operation, or for each node. A row is as wide as the columns that it has.
+// Rows of cells in one lent list: a row for each operation, or for each node.
 ghost use mathlib.Core.Path.{_≡_};
 ghost use Prim.Native.Nat.{_<_};
 ghost use Rattle.basics.specs.Maps.{at, upd};
@@ -28,8 +28,8 @@ pub const MARK: usize = 1;
 
 pub const UPPER: usize = 2;
 
-// how many they are
-pub const NODES: usize = 3;
+// How wide the row is: three columns and a free cell. A processor addresses rows of four cells without a multiplication.
+pub const NODES: usize = 4;
 
 // Cell `f` of row `i`, in rows of so many cells.
 pub fn cell(rows: &[u16], width: usize, i: u16, f: usize) -> u16
