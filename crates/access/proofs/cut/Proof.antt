@@ -1,13 +1,14 @@
 -- `access::cut` meets its contract: under what each test told, the definition computes to the answer. Assumes nothing.
 use mathlib.Core.Path.{refl, sym}
 use Rattle.basics.specs.Choice.{pick}
+use Rattle.rows.specs.Nodes.{marks, uppers}
 use Rattle.rows.proofs.Nodes.{upper-stored}
 use Rattle.machine.specs.Memory.{with-upper, yes-if}
 use Rattle.machine.specs.Access.{access, have-set}
 use Rattle.machine.specs.Notes.{event-of}
 use Rattle.access.specs.Nodes.{memory-of}
 use Rattle.access.specs.View.{reached-from, reached-by}
-use Rattle.access.proofs.Cells.{upper-is, upper-is-not, mark-is, mark-is-not}
+use Rattle.access.proofs.Cells.{cell-is, cell-is-not}
 use borrow.Author.Needs.{needs}
 use Rattle.access.proofs.cut.Statement.{statement}
 use Rattle.access.proofs.cut.Tie as tie
@@ -17,7 +18,7 @@ unfolding access have-set reached-from reached-by memory-of event-of with-upper 
 returns c =
     λ own.
     let lower = c .before .before .before .before .before .cell .ensures in
-    let another = upper-is-not _ _ (c .before .before .before .cell2 .ensures) (c .before .if1 .taken) in
+    let another = cell-is-not (uppers _) _ (c .before .before .before .cell2 .ensures) (c .before .if1 .taken) in
     rw (c .answer .ensures) (record { reaches = rw (sym lower, another); tells = refl })
 
 returns-2 : tie.Need-returns-2
@@ -25,8 +26,8 @@ unfolding access have-set reached-from reached-by memory-of event-of with-upper 
 returns-2 c =
     λ own.
     let lower = c .before .before .before .before .before .before .before .before .cell .ensures in
-    let holds = upper-is _ _ (c .before .before .before .before .before .before .cell2 .ensures) (c .before .before .before .before .if1 .left) in
-    let dead = mark-is-not _ _ (c .before .before .cell3 .ensures) (c .before .if2 .taken) in
+    let holds = cell-is (uppers _) _ (c .before .before .before .before .before .before .cell2 .ensures) (c .before .before .before .before .if1 .left) in
+    let dead = cell-is-not (marks _) _ (c .before .before .cell3 .ensures) (c .before .if2 .taken) in
     rw (c .answer2 .ensures) (record { reaches = rw (sym lower, holds, dead); tells = refl })
 
 returns-3 : tie.Need-returns-3
@@ -35,8 +36,8 @@ returns-3 c =
     λ own.
     let tests = c .before .before .before .before .before in
     let lower = tests .before .before .before .before .before .before .before .cell .ensures in
-    let holds = upper-is _ _ (tests .before .before .before .before .before .cell2 .ensures) (tests .before .before .before .if1 .left) in
-    let live = mark-is _ _ (tests .before .cell3 .ensures) (tests .if2 .left) in
+    let holds = cell-is (uppers _) _ (tests .before .before .before .before .before .cell2 .ensures) (tests .before .before .before .if1 .left) in
+    let live = cell-is (marks _) _ (tests .before .cell3 .ensures) (tests .if2 .left) in
     let stored = upper-stored _ _ _ _ (c .before .before .before .store .ensures) in
     rw (c .answer3 .ensures) (record { reaches = rw (sym lower, holds, live, stored .0, stored .1, stored .2); tells = refl })
 

@@ -2,11 +2,12 @@
 use mathlib.Core.Path.{refl}
 use Rattle.basics.specs.Choice.{pick}
 use Rattle.basics.proofs.Choice.{equal-same, unequal-same}
+use Rattle.rows.specs.Nodes.{uppers}
 use Rattle.machine.specs.Access.{access, have-read}
 use Rattle.machine.specs.Notes.{event-of}
 use Rattle.access.specs.Nodes.{memory-of}
 use Rattle.access.specs.View.{reached-from, reached-by}
-use Rattle.access.proofs.Cells.{upper-is, upper-is-not}
+use Rattle.access.proofs.Cells.{cell-is, cell-is-not}
 use borrow.Author.Needs.{needs}
 use Rattle.access.proofs.read_upper_to_take.Statement.{statement}
 use Rattle.access.proofs.read_upper_to_take.Tie as tie
@@ -16,7 +17,7 @@ unfolding access have-read reached-from reached-by memory-of event-of pick
 returns c =
     λ own.
     let read = c .before .before .before .cell .ensures in
-    let some = upper-is-not _ _ read (c .before .if1 .taken) in
+    let some = cell-is-not (uppers _) _ read (c .before .if1 .taken) in
     rw (c .answer .ensures) (record { reaches = rw (read, some); tells = refl })
 
 returns-2 : tie.Need-returns-2
@@ -24,7 +25,7 @@ unfolding access have-read reached-from reached-by memory-of event-of pick
 returns-2 c =
     λ own.
     let read = c .before .before .before .before .before .cell .ensures in
-    let none = upper-is _ _ read (c .before .before .before .if1 .left) in
+    let none = cell-is (uppers _) _ read (c .before .before .before .if1 .left) in
     rw (c .answer2 .ensures) (record { reaches = rw (read, none, equal-same (c .before .if2 .taken)); tells = refl })
 
 returns-3 : tie.Need-returns-3
@@ -32,7 +33,7 @@ unfolding access have-read reached-from reached-by memory-of event-of pick
 returns-3 c =
     λ own.
     let read = c .before .before .before .before .before .cell .ensures in
-    let none = upper-is _ _ read (c .before .before .before .if1 .left) in
+    let none = cell-is (uppers _) _ read (c .before .before .before .if1 .left) in
     rw (c .answer3 .ensures) (record { reaches = rw (read, none, unequal-same (c .before .if2 .left)); tells = refl })
 
 pub read-upper-to-take-spec : {M : Type 1} → statement M
