@@ -12,6 +12,7 @@ use Rattle.basics.proofs.Choice.{lt-less, le-less, equal-same, unequal-same}
 use Rattle.job.specs.declared.Limits.{Limits}
 use Rattle.job.specs.declared.Lookup.{Lookup}
 use Rattle.job.specs.Kind.{kind-of, is-missing}
+use Rattle.job.specs.Slot.{slot-of, process-of}
 use Rattle.job.specs.Stream.{kind, operations, schedule-length, process, processes, action, value, scheduled, stream-length}
 use Rattle.job.specs.Refusals.{first-met, any, outside, bad-kind, bad-processes, bad-operations, bad-schedule-length, header-conditions, bad-record, bad-entry}
 use Rattle.job.proofs.Conditions.{met-here, met-later, met-none}
@@ -89,7 +90,7 @@ unfolding scheduled at
 entry-byte s k from count = ap (λ (x : ℕ). getD s (x + k) 0) (from ∙ ap (λ (x : ℕ). 5 + 4 * x) count)
 
 -- an entry of the schedule likewise
-module _ (s : List ℕ) (k : ℕ) {p n : ℕ} (own : p ≡ scheduled s k) (all : n ≡ processes s) where
+module _ (s : List ℕ) (k : ℕ) {p n : ℕ} (own : p ≡ process-of (slot-of (scheduled s k))) (all : n ≡ processes s) where
   pub entry-met : n ≤ p → bad-entry s k ≡ true
   unfolding bad-entry
   entry-met h = simp (← own, ← all, le-less h)

@@ -18,6 +18,7 @@ use Rattle.block.specs.Block.{block-size, payload-size, payload-of}
 use Rattle.job.specs.declared.Limits.{Limits}
 use Rattle.job.specs.Limits.{most-stream, Sound}
 use Rattle.job.specs.Kind.{kind-of, kind-found}
+use Rattle.job.specs.Slot.{slot-of, process-of}
 use Rattle.job.specs.Stream.{kind, processes, operations, schedule-length, record-at, process, action, value, scheduled, stream-length}
 use Rattle.job.specs.Refusals.{outside, bad-padding, bad-processes, bad-schedule, bad-entry}
 use Rattle.job.specs.File.{zeros, block-at, block-count, payloads, joined, stream-of, zeros-behind, zero-filled}
@@ -78,7 +79,7 @@ job-alike s t e =
       is-put = λ o. same (e i (2 + 4 * o + 1)) 1;
       field = λ o. 256 * e i (2 + 4 * o + 2) + e i (suc (2 + 4 * o + 2));
       steps = 256 * e i 4 + e i 5;
-      entry = λ k. e i (5 + 4 * (256 * e i 2 + e i 3) + k);
+      slot = λ k. slot-of (e i (5 + 4 * (256 * e i 2 + e i 3) + k));
     }
 
 -- a stream in range, as long as the longest, is ready for a run
@@ -86,8 +87,8 @@ fine-ready : {l : Limits} {s : List ℕ} → Sound l → Fine l s → length s �
 unfolding bad-processes bad-schedule bad-entry outside stream-length
 fine-ready {l} {s} sound f long =
     let most : processes s ≤ l .processes = less-le (or-both (less (processes s) 1) (less (l .processes) (processes s)) (f .processes) .1) in
-    let entry : (k : ℕ) → 1 ≤ k → k < 1 + schedule-length s → scheduled s k < processes s =
-    λ k low high. less-lt (not-false (less (scheduled s k) (processes s)) (any-each (bad-entry s) 1 (schedule-length s) (f .schedule) k low high))
+    let entry : (k : ℕ) → 1 ≤ k → k < 1 + schedule-length s → process-of (slot-of (scheduled s k)) < processes s =
+    λ k low high. less-lt (not-false (less (process-of (slot-of (scheduled s k))) (processes s)) (any-each (bad-entry s) 1 (schedule-length s) (f .schedule) k low high))
     in
     let few : operations s ≤ l .operations = fine-counts f .0 in
     let short : schedule-length s ≤ l .steps = fine-counts f .1 in

@@ -5,7 +5,9 @@ use mathlib.Core.List.{List}
 use Rattle.basics.specs.Choice.{same}
 use Rattle.job.specs.declared.Kind.{Kind}
 use Rattle.job.specs.declared.Heading.{Heading}
+use Rattle.job.specs.declared.Slot.{Slot}
 use Rattle.job.specs.Kind.{kind-of, kind-found}
+use Rattle.job.specs.Slot.{slot-of}
 use Rattle.job.specs.Stream.{kind, operations, schedule-length, process, action, value, scheduled}
 
 pub record Job : Type 0 where
@@ -21,8 +23,8 @@ pub record Job : Type 0 where
   pub field : ℕ → ℕ
   -- the schedule's length, S; steps are 1 to S
   pub steps : ℕ
-  -- the process that the schedule names for a step
-  pub entry : ℕ → ℕ
+  -- what the schedule names for a step
+  pub slot : ℕ → Slot
 
 -- the job in a stream
 unfoldable pub job-of : List ℕ → Job
@@ -34,7 +36,7 @@ job-of s =
       is-put = λ o. same (action s o) 1;
       field = value s;
       steps = schedule-length s;
-      entry = scheduled s;
+      slot = λ k. slot-of (scheduled s k);
     }
 
 -- what a job's run and its report are told of its header

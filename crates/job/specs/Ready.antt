@@ -4,12 +4,13 @@ use Prim.Native.Nat.{ℕ, _+_, _*_, _≤_, _<_}
 use mathlib.Core.List.{List}
 use lib.ListN.{length}
 use Rattle.job.specs.Limits.{field}
+use Rattle.job.specs.Slot.{slot-of, process-of}
 use Rattle.job.specs.Stream.{operations, schedule-length, scheduled, stream-length}
 
 pub record Ready (s : List ℕ) : Type 0 where
   pub rows : operations s ≤ field .operations
   pub cells : schedule-length s ≤ field .steps
-  pub places : (k : ℕ) → 1 ≤ k → k ≤ schedule-length s → scheduled s k < field .processes
+  pub places : (k : ℕ) → 1 ≤ k → k ≤ schedule-length s → process-of (slot-of (scheduled s k)) < field .processes
   pub whole : stream-length s ≤ length s
   -- as many bytes as a record has behind the last one: who looks for an operation past the last reads there
   pub behind : 6 + 4 * operations s + 4 ≤ length s

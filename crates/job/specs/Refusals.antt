@@ -10,6 +10,7 @@ use Rattle.basics.specs.Maps.{at}
 use Rattle.block.specs.Block.{payload-size}
 use Rattle.job.specs.declared.Limits.{Limits}
 use Rattle.job.specs.Kind.{kind-of, is-missing}
+use Rattle.job.specs.Slot.{slot-of, process-of}
 use Rattle.job.specs.Stream.{kind, processes, operations, schedule-length, process, action, value, scheduled, stream-length}
 
 -- the number of the first condition met in a list of conditions, and 0 where none is met
@@ -57,9 +58,9 @@ bad-record s o =
 unfoldable pub bad-records : List ℕ → Bool
 bad-records s = any (bad-record s) 1 (operations s)
 
--- number 11, of one entry: "an entry of P or more"
+-- number 11, of one entry. Document 02, request 4: "entries whose process, after taking off 128 where it is 128 or more, is P or more"
 unfoldable pub bad-entry : List ℕ → ℕ → Bool
-bad-entry s k = not (less (scheduled s k) (processes s))
+bad-entry s k = not (less (process-of (slot-of (scheduled s k))) (processes s))
 
 -- number 11: the schedule
 unfoldable pub bad-schedule : List ℕ → Bool

@@ -39,7 +39,7 @@ action s o = at s (record-at o + 1)
 unfoldable pub value : List ℕ → ℕ → ℕ
 value s o = word s (record-at o + 2)
 
--- "S bytes, each a process": the process of step `k`
+-- "S bytes, each a process": the entry of step `k`
 unfoldable pub scheduled : List ℕ → ℕ → ℕ
 scheduled s k = at s (5 + 4 * operations s + k)
 

@@ -6,6 +6,7 @@ ghost use Prim.Native.Nat.{_+_, _*_, _≤_, _<_};
 ghost use lib.ListN.{length};
 ghost use Rattle.job.specs.Limits.{field, most-file, most-stream, Sound};
 ghost use Rattle.job.specs.Kind.{kind-of};
+ghost use Rattle.job.specs.Slot.{slot-of, process-of, is-drop};
 ghost use Rattle.job.specs.Job.{job-of, heading-of};
 ghost use Rattle.job.specs.Stream.{kind, processes, operations, schedule-length, stream-length, record-at, action};
 ghost use Rattle.job.specs.Refusals.{first-met, outside, exact-count, bad-record, bad-records, bad-schedule, bad-padding, header-conditions, list-conditions};
@@ -18,6 +19,12 @@ pub struct Step(pub u16);
 
 // A process's number; processes count from 0.
 pub struct Process(pub u8);
+
+// What the schedule names for a step: a process that steps, or one that drops its begun operation.
+pub enum Slot {
+    Acts(Process),
+    Drops(Process),
+}
 
 // The objects of a job.
 pub enum Kind {
@@ -228,13 +235,43 @@ fn schedule_at(count: u16) -> usize
     5 + 4 * (count as usize)
 }
 
-// The process that the schedule names for a step, in a stream of so many operations.
-pub fn scheduled(s: &[u8], count: u16, k: Step) -> Process
+// What an entry of the schedule names. Document 02: "A schedule entry 128 + p is a numbered step in which process p drops".
+fn slot_of(entry: u8) -> Slot
+    ensures { λ r. ⌜ r ≡ slot-of entry ⌝ }
+{
+    if entry < 128 {
+        return Slot::Acts(Process(entry));
+    }
+    Slot::Drops(Process(entry - 128))
+}
+
+// The process that is named.
+pub fn process_of(slot: Slot) -> Process
+    ensures { λ r. ⌜ r .0 ≡ process-of slot ⌝ }
+{
+    match slot {
+        Slot::Acts(p) => p,
+        Slot::Drops(p) => p,
+    }
+}
+
+// Does it drop its operation?
+pub fn is_drop(slot: Slot) -> bool
+    ensures { λ r. ⌜ r ≡ is-drop slot ⌝ }
+{
+    match slot {
+        Slot::Acts(_) => false,
+        Slot::Drops(_) => true,
+    }
+}
+
+// What the schedule names for a step, in a stream of so many operations.
+pub fn scheduled(s: &[u8], count: u16, k: Step) -> Slot
     requires { ⌜ (count ≡ operations (now s)) × (5 + 4 * count + k .0 < length (now s)) ⌝ }
-    ensures { λ r. ⌜ r .0 ≡ job-of (now (s .entry)) .entry (k .0) ⌝ }
+    ensures { λ r. ⌜ r ≡ job-of (now (s .entry)) .slot (k .0) ⌝ }
 {
     let place = schedule_at(count);
-    Process(s[place + k.0 as usize])
+    slot_of(s[place + k.0 as usize])
 }
 
 // The length of the stream itself, without padding.
@@ -326,7 +363,8 @@ fn bad_schedule(s: &[u8]) -> bool
     let processes = processes(s);
     let mut k: usize = 1;
     while k < end {
-        if s[place + k] >= processes {
+        let p = process_of(slot_of(s[place + k]));
+        if p.0 >= processes {
             return true;
         }
         k += 1;

@@ -1,5 +1,5 @@
 -- The whole journal over one step: idle steps leave it, and a step's stores make it that of one more step. Assumes nothing.
-use mathlib.Core.Path.{_≡_, refl, sym, ap, subst, _∙_}
+use mathlib.Core.Path.{_≡_, sym, ap, subst, _∙_}
 use Prim.Native.Nat.{ℕ, suc, _≤_, _<_}
 use native.Mathlib.Omega.{arith}
 use mathlib.Core.Bool.{Bool}
@@ -7,30 +7,13 @@ use mathlib.Core.List.{List}
 use Rattle.basics.specs.Maps.{at, upd}
 use Rattle.basics.proofs.Maps.{upd-elim, upd-id}
 use Rattle.job.specs.Job.{Job}
-use Rattle.machine.specs.declared.Row.{Row}
-use Rattle.machine.specs.Access.{Registers}
-use Rattle.machine.specs.Table.{End, end-of, is-end, ended}
-use Rattle.machine.specs.Table.End.{no-end, with-done, with-n, with-t, with-empty}
-use Rattle.machine.specs.Notes.{note, answer-at, answer-of, is-answer}
+use Rattle.machine.specs.Notes.{note, is-answer}
 use Rattle.theory.proofs.Course.{PassesIn, ActsIn, passes-by}
 use Rattle.theory.proofs.Operations.{course}
 use Rattle.rows.specs.Operations.{cells}
 use Rattle.journal.specs.Journal.{Agrees, Holds}
 use Rattle.journal.specs.Stored.{Stored}
 use Rattle.journal.proofs.Kept.{idle-keeps, acts-keep}
-
--- an operation is answered where its row is an end
-answers-with : (e : End) (g : Registers) → is-answer (answer-at e g) ≡ is-end e
-unfolding is-answer answer-at is-end
-answers-with no-end g = refl
-answers-with with-done g = refl
-answers-with with-n g = refl
-answers-with with-t g = refl
-answers-with with-empty g = refl
-
-pub answers-at-end : (r : Row) (g : Registers) → is-answer (answer-of r g) ≡ ended r
-unfolding answer-of ended
-answers-at-end r g = answers-with (end-of r) g
 
 module _ (j : Job) where
   -- who made each step, with one more

@@ -3,19 +3,25 @@
 use mathlib.Core.Path.{_≡_}
 use Prim.Native.Nat.{ℕ, _≤_, _<_}
 use mathlib.Core.List.{List}
+use Rattle.basics.specs.Choice.{pick, same}
 use Rattle.basics.specs.Maps.{at}
-use Rattle.rows.specs.Operations.{Column, Cells, cells}
+use Rattle.rows.specs.Operations.{Column, Cells, cells, dropped-mark}
 use Rattle.rows.specs.Operations.Column.{First, Last, Start, Link, Taken, Stands}
 use Rattle.job.specs.Job.{Job}
 use Rattle.machine.specs.Notes.{note}
 use Rattle.machine.specs.Journal as the
+use Rattle.machine.specs.Drops.{drop}
 use Rattle.machine.specs.Effects.{takes-at}
 use Rattle.machine.specs.Explained.{IsOperation}
+
+-- its last step, or the mark of one that was dropped
+abbrev pub ending : Job → ℕ → ℕ → ℕ
+ending j k o = pick (same (drop j k o) 0) (the.last (note j) k o) dropped-mark
 
 -- what a column says of an operation after k steps
 abbrev pub held : Job → ℕ → Column → ℕ → ℕ
 held j k First o = the.first (note j) k o
-held j k Last o = the.last (note j) k o
+held j k Last o = ending j k o
 held j k Start o = the.start (note j) k o
 held j k Link o = the.link (note j) k o
 held j k Taken o = the.taken (note j) k o

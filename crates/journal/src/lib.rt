@@ -2,10 +2,12 @@
 ghost use mathlib.Core.Path.{_≡_};
 ghost use Prim.Native.Nat.{_<_, max};
 ghost use lib.ListN.{length};
+ghost use mathlib.Core.Bool.{not};
+ghost use Rattle.basics.specs.Choice.{same};
 ghost use Rattle.basics.specs.Maps.{at, upd};
 ghost use Rattle.rows.specs.Rows.{place, column};
-ghost use Rattle.rows.specs.Operations.{op-width, HasOps, cells, stored};
-ghost use Rattle.rows.specs.Operations.Column.{Taken, Stands};
+ghost use Rattle.rows.specs.Operations.{op-width, HasOps, cells, stored, dropped-mark};
+ghost use Rattle.rows.specs.Operations.Column.{First, Last, Taken, Stands};
 ghost use Rattle.journal.specs.Stored.{earlier, entered, noted, closed, HasCells};
 use job::Operation;
 use job::Step;
@@ -77,6 +79,22 @@ pub fn enter(o: Operation, k: Step, ops: &mut [u16], by: &mut [u16])
 {
     store_first(ops, o.0, rows::FIRST, k);
     by[k.0 as usize] = o.0;
+}
+
+// Has operation o made a step?
+pub fn has_begun(o: Operation, ops: &[u16]) -> bool
+    requires { ⌜ HasOps (o .0) (now ops) ⌝ }
+    ensures { λ r. ⌜ r ≡ not (same (cells (now (ops .entry)) First (o .0)) 0) ⌝ }
+{
+    cell(ops, rows::OPS, o.0, rows::FIRST) != 0
+}
+
+// Enters that operation o was dropped.
+pub fn enter_drop(o: Operation, ops: &mut [u16])
+    requires { ⌜ HasOps (o .0) (now ops) ⌝ }
+    ensures { λ _. ⌜ cells (now (ops .exit)) ≡ stored Last (o .0) dropped-mark (cells (now (ops .entry))) ⌝ }
+{
+    store(ops, rows::OPS, o.0, rows::LAST, rows::DROPPED);
 }
 
 // Enters step k as the last of operation o, if it ended there.

@@ -4,7 +4,7 @@ use mathlib.Core.List.{List, _++_}
 use lib.ListN.{length}
 use Rattle.basics.specs.Choice.{pick, same}
 use Rattle.basics.specs.Text.{text, decimal}
-use Rattle.rows.specs.Operations.{HasOps, Cells, cells}
+use Rattle.rows.specs.Operations.{HasOps, Cells, cells, dropped-mark}
 use Rattle.rows.specs.Operations.Column.{First, Last, Link, Taken}
 use Rattle.job.specs.Stream.{record-at}
 use Rattle.job.specs.Job.{Job}
@@ -30,11 +30,12 @@ front-text j o = text "op " ++ decimal o ++ text " process " ++ decimal (j .owne
 abbrev pub answer-told : Job → Cells → ℕ → List ℕ
 answer-told j c o = answer-text j (said (c Link o) (c Taken o))
 
--- how an operation that has begun ended, if it did: ` last 4 done`, ` last - open`
+-- how an operation that has begun ended, if it did: ` last 4 done`, ` last - open`, ` last - dropped`
 unfoldable pub end-told : Job → Cells → ℕ → List ℕ
 end-told j c o =
     pick (same (c Last o) 0) (text " last - open")
-    (text " last " ++ decimal (c Last o) ++ answer-told j c o)
+    (pick (same (c Last o) dropped-mark) (text " last - dropped")
+    (text " last " ++ decimal (c Last o) ++ answer-told j c o))
 
 -- how far it has come: ` first 1` and what follows, or ` first - last - waiting`
 unfoldable pub progress-told : Job → Cells → ℕ → List ℕ

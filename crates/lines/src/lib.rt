@@ -99,6 +99,9 @@ fn put_end(out: &mut [u8], at: usize, stream: &[u8], ops: &[u16], o: Operation) 
     if last == 0 {
         return put_bytes(out, at, b" last - open");
     }
+    if last == rows::DROPPED {
+        return put_bytes(out, at, b" last - dropped");
+    }
     let next = put_labelled(out, at, b" last ", last);
     put_answer(out, next, stream, ops, o)
 }

@@ -1,13 +1,15 @@
 -- Every register and every cell of a run holds a number of 0 to N, every operation in hand one of 1 to N + 1, and no place stands at an
 -- end: all that the safety of code needs. Assumes nothing.
-use mathlib.Core.Path.{_≡_}
+use mathlib.Core.Path.{_≡_, sym}
 use Prim.Native.Nat.{ℕ, zero, suc, _-_, _≤_, zero-le}
 use native.Mathlib.Omega.{arith}
-use mathlib.Core.Bool.{Bool, false}
+use mathlib.Core.Bool.{Bool, true, false, true≢false}
 use Rattle.basics.specs.Choice.{pick, same}
 use Rattle.basics.specs.Maps.{upd}
 use Rattle.basics.proofs.Choice.{pick-elim, less-le}
 use Rattle.basics.proofs.Maps.{upd-elim}
+use Rattle.job.specs.declared.Slot.{Slot}
+use Rattle.job.specs.declared.Slot.the-variants.{Acts, Drops}
 use Rattle.job.specs.Job.{Job}
 use Rattle.machine.specs.declared.Place.{Place}
 use Rattle.machine.specs.declared.Access.{Access}
@@ -17,7 +19,7 @@ use Rattle.machine.specs.declared.Outcome.the-variants.{Yes, No, Bare}
 use Rattle.machine.specs.Memory.{Memory, fresh-memory, set-from-to, with-head, with-tail, with-top, with-next, with-mark, with-upper}
 use Rattle.machine.specs.Table.{row-of, ended}
 use Rattle.machine.specs.Access.{Registers, Reached, have-read, have-set, access}
-use Rattle.machine.specs.Run.{State, operation-after, before, fresh-state, reach, registers, reached, row-after, place-after, resting, step, state-after}
+use Rattle.machine.specs.Run.{State, operation-after, before, fresh-state, reach, registers, reached, row-after, place-after, resting, acting, dropping, step, state-after}
 use Rattle.machine.specs.Notes.{event-of}
 use Rattle.machine.specs.Journal.{item-of}
 use Rattle.machine.proofs.Searches.{seek-from, seek-to}
@@ -120,6 +122,8 @@ pub record PlaceWithin (N : ℕ) (p : Place) : Type 0 where
 pub record Within (j : Job) (s : State) : Type 0 where
   pub memory : MemoryWithin (j .count) (s .memory)
   pub place : (p : ℕ) → PlaceWithin (j .count) (s .places p)
+  -- what has begun is an operation
+  pub begun : (o : ℕ) → s .begun o ≡ true → o ≤ j .count
 
 module _ (j : Job) where
   before-within : (p o : ℕ) → o ≤ j .count → PlaceWithin (j .count) (before j (operation-after j p o))
@@ -151,12 +155,12 @@ module _ (j : Job) where
       (λ e. before-within process (p .operation .0) small)
       (λ e. record { from-one = place .from-one; to-next = place .to-next; own = own; going = e })
 
-  step-within : (process : ℕ) (s : State) → Within j s → Within j (step j process s)
-  unfolding step resting
-  step-within process s w =
+  acting-within : (process : ℕ) (s : State) → Within j s → Within j (acting j process s)
+  unfolding acting resting
+  acting-within process s w =
       let p : Place = s .places process in
       let a : Reached = reached (s .memory) p in
-      pick-elim (Within j) (resting j p) s (record { memory = a .memory; places = upd (s .places) process (place-after j process p a) })
+      pick-elim (Within j) (resting j p) s (record { memory = a .memory; places = upd (s .places) process (place-after j process p a); begun = upd (s .begun) (p .operation .0) true })
       (λ rests. w)
       (λ acts.
       let small : p .operation .0 ≤ j .count = less-le acts in
@@ -167,7 +171,32 @@ module _ (j : Job) where
             upd-elim (PlaceWithin (j .count)) (s .places) process (place-after j process p a) q
             (λ here. place-after-within process p a small (w .place process) (t .own))
             (λ there. w .place q);
+        begun = λ o.
+            upd-elim (λ b. b ≡ true → o ≤ j .count) (s .begun) (p .operation .0) true o
+            (λ here b. omega arith)
+            (λ there b. w .begun o b);
       })
+
+  dropping-within : (process : ℕ) (s : State) → Within j s → Within j (dropping j process s)
+  unfolding dropping
+  dropping-within process s w =
+      let o : ℕ = s .places process .operation .0 in
+      pick-elim (Within j) (s .begun o) (record { memory = s .memory; places = upd (s .places) process (before j (operation-after j process o)); begun = s .begun }) s
+      (λ drops.
+      record {
+        memory = w .memory;
+        place = λ q.
+            upd-elim (PlaceWithin (j .count)) (s .places) process (before j (operation-after j process o)) q
+            (λ here. before-within process o (w .begun o drops))
+            (λ there. w .place q);
+        begun = w .begun;
+      })
+      (λ stays. w)
+
+  step-within : (slot : Slot) (s : State) → Within j s → Within j (step j slot s)
+  unfolding step
+  step-within (Acts p) s w = acting-within (p .0) s w
+  step-within (Drops p) s w = dropping-within (p .0) s w
 
   -- everything is within its bounds after any number of steps
   pub within : (k : ℕ) → Within j (state-after j k)
@@ -176,5 +205,6 @@ module _ (j : Job) where
       record {
         memory = record { head = omega arith; tail = omega arith; top = omega arith; next = λ i. omega arith; upper = λ i. omega arith };
         place = λ p. before-within p 0 (omega arith);
+        begun = λ o b. absurd (true≢false (sym b));
       }
-  within (suc k) = step-within (j .entry (suc k)) (state-after j k) (within k)
+  within (suc k) = step-within (j .slot (suc k)) (state-after j k) (within k)

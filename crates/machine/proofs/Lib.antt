@@ -1,5 +1,5 @@
 -- The laws by which everything above uses the definitions: lists and searches, what one more step does to a search, the step table as turns,
--- what goes by the kind, an effect by its cases, the record by its steps, and the bounds of every cell.
+-- what goes by the kind, an effect by its cases, the record by its steps, a step by what the schedule names, and the bounds of every cell.
 pub mod Lists
 pub mod Searches
 pub mod Stamps
@@ -7,4 +7,5 @@ pub mod Turns
 pub mod ByKind
 pub mod Effected
 pub mod Placed
+pub mod Slots
 pub mod Bounds

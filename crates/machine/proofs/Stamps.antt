@@ -1,16 +1,18 @@
 -- What one more step does to the searches of the journal, by who made it and what it was: an operation's first, link, join, item, start,
--- last and answer, and the first move of Head to an item. Assumes nothing.
+-- last and answer, the first move of Head to an item, and the drop of an operation. Assumes nothing.
 use mathlib.Core.Path.{_≡_, ap, _∙_}
 use mathlib.Core.Logic.{_≢_}
 use Prim.Native.Nat.{ℕ, suc, _≤_, _<_}
 use mathlib.Core.Bool.{Bool, true, false, not, _&&_, and-false}
 use Rattle.basics.specs.Choice.{same}
-use Rattle.basics.proofs.Choice.{equal-same, unequal-same}
+use Rattle.basics.proofs.Choice.{same-equal, equal-same, unequal-same}
+use Rattle.job.specs.Job.{Job}
 use Rattle.machine.specs.declared.Event.the-variants.{Round, Linked, Moved}
 use Rattle.machine.specs.Notes.{Answer, Note, is-answer, idle}
 use Rattle.machine.specs.Journal.{is-round, is-linked, item-of, moved-to, made, begins-round, links, joins, ends, first, last, answer, start, link, join, taken}
 use Rattle.machine.specs.Effects.{first-move}
-use Rattle.machine.proofs.Searches.{earliest-zero, earliest-kept, earliest-new, earliest-stays, earliest-least, earliest-later, earliest-le, latest-zero, latest-kept, latest-new, latest-le}
+use Rattle.machine.specs.Drops.{dropped, drop}
+use Rattle.machine.proofs.Searches.{earliest-zero, earliest-kept, earliest-new, earliest-meets, earliest-stays, earliest-least, earliest-later, earliest-le, latest-zero, latest-kept, latest-new, latest-le}
 
 -- a step of operation o that meets a test
 unfoldable own-step : (ℕ → Note) → (Note → Bool) → ℕ → ℕ → Bool
@@ -226,3 +228,33 @@ module _ (log : ℕ → Note) (item : ℕ) where
   pub first-move-stays : (k l : ℕ) → k ≤ l → first-move log k item ≢ 0 → first-move log l item ≡ first-move log k item
   unfolding first-move moves-to
   first-move-stays k l later n = earliest-stays moves-to k l later n
+
+-- the drop of an operation
+module _ (j : Job) (o : ℕ) where
+  unfoldable drops-it : ℕ → Bool
+  drops-it s = same (dropped j s) o
+
+  pub drop-zero : drop j 0 o ≡ 0
+  unfolding drop drops-it
+  drop-zero = earliest-zero drops-it
+
+  pub drop-le : (k : ℕ) → drop j k o ≤ k
+  unfolding drop drops-it
+  drop-le k = earliest-le drops-it k
+
+  pub drop-other : (k : ℕ) → dropped j (suc k) ≢ o → drop j (suc k) o ≡ drop j k o
+  unfolding drop drops-it
+  drop-other k n = earliest-kept drops-it k (unequal-same n)
+
+  pub drop-new : (k : ℕ) → dropped j (suc k) ≡ o → drop j k o ≡ 0 → drop j (suc k) o ≡ suc k
+  unfolding drop drops-it
+  drop-new k e z = earliest-new drops-it k z (equal-same e)
+
+  pub drop-stays : (k l : ℕ) → k ≤ l → drop j k o ≢ 0 → drop j l o ≡ drop j k o
+  unfolding drop drops-it
+  drop-stays k l later n = earliest-stays drops-it k l later n
+
+  -- it is the step that drops it
+  pub drop-drops : (k : ℕ) → drop j k o ≢ 0 → dropped j (drop j k o) ≡ o
+  unfolding drop drops-it
+  drop-drops k n = same-equal (earliest-meets drops-it k n)

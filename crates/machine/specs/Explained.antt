@@ -15,6 +15,7 @@ use Rattle.machine.specs.Multiplicity.Line.{put, takes, empty}
 use Rattle.machine.specs.Notes.{Answer, note}
 use Rattle.machine.specs.Journal.{first, last, answer, link, taken}
 use Rattle.machine.specs.Effects.{takers, takes-at, is-stack, took-effect, Precedes, Overlap}
+use Rattle.machine.specs.Drops.{drop}
 use Rattle.machine.specs.Record.{Recorded, the-record, lines-of}
 use Rattle.machine.specs.Left.{left}
 
@@ -71,6 +72,15 @@ pub record InEffect (j : Job) (k o : ℕ) : Type 0 where
   pub begun : first (note j) k o ≢ 0
   pub from-first : first (note j) k o ≤ place .step
 
+-- Document 02, request 4: "A dropped operation […] has no last step, and is recorded by the same conditions as an open one. Its effect, if
+-- any, stands no later than the drop". It began before it, and makes no step behind it.
+pub record Dropped (j : Job) (k o : ℕ) : Type 0 where
+  pub begun : first (note j) k o ≢ 0
+  pub from-first : first (note j) k o < drop j k o
+  pub no-last : last (note j) k o ≡ 0
+  pub no-step-behind : (s : ℕ) → s ≤ k → note j s .by ≡ o → s < drop j k o
+  pub no-later : (r : Recorded) → List·Memᴰ r (the-record j k) → List·Memᴰ o (members (r .line)) → r .step ≤ drop j k o
+
 -- the number of put lines, and of takers' lines
 unfoldable pub put-lines : List Line → ℕ
 put-lines [] = 0
@@ -100,6 +110,8 @@ pub record Explained (j : Job) (k : ℕ) : Type 0 where
   -- "An unanswered one is in it once exactly when it took effect, otherwise not at all, and never before its first step."
   pub in-effect : (o : ℕ) → IsOperation (j .count) o → last (note j) k o ≡ 0 → took-effect (j .object) (note j) k o ≡ true → InEffect j k o
   pub without-effect : (o : ℕ) → IsOperation (j .count) o → last (note j) k o ≡ 0 → took-effect (j .object) (note j) k o ≡ false → times o (the-record j k) ≡ 0
+  -- a dropped one is unanswered, so the two above are said of it too; "Its effect, if any, stands no later than the drop"
+  pub dropped : (o : ℕ) → IsOperation (j .count) o → drop j k o ≢ 0 → Dropped j k o
   -- nothing else is in it
   pub operations : (r : Recorded) → List·Memᴰ r (the-record j k) → (o : ℕ) → List·Memᴰ o (members (r .line)) → IsOperation (j .count) o
   -- "So for any two operations in the record, one that ended before the other began stands in an earlier line"

@@ -7,6 +7,7 @@ pub mod Access
 pub mod Run
 pub mod Notes
 pub mod Journal
+pub mod Drops
 pub mod Idle
 pub mod Effects
 pub mod Record

@@ -3,6 +3,8 @@
 use Prim.Native.Nat.{ℕ, zero, suc}
 use mathlib.Core.Bool.{Bool, true, false}
 use Rattle.basics.specs.Choice.{pick}
+use Rattle.job.specs.declared.Slot.{Slot}
+use Rattle.job.specs.declared.Slot.the-variants.{Acts, Drops}
 use Rattle.job.specs.Job.{Job}
 use Rattle.machine.specs.declared.Row.{Row}
 use Rattle.machine.specs.declared.Access.{Access}
@@ -78,13 +80,13 @@ event-of ClearFlag Bare r = Quiet
 
 -- what there is to say of one step
 pub record Note : Type 0 where
-  -- the operation that made it, 0 if the step was idle
+  -- the operation that made it, 0 if nobody did
   pub by : ℕ
   pub event : Event
   -- the answer with which it ended its operation
   pub answer : Answer
 
--- a step that is idle
+-- a step that nobody makes
 unfoldable pub idle : Note
 idle = record { by = 0; event = Quiet; answer = none }
 
@@ -97,11 +99,15 @@ acted p a =
       answer = answer-of (row-after p a) (a .registers);
     }
 
+-- the step that a state is before, by what the schedule names for it. A drop is nobody's step: what it drops, `Drops.antt` says
+unfoldable pub note-next : Job → State → Slot → Note
+note-next j s (Acts p) =
+    let place : Place = s .places (p .0) in
+    let a : Note = acted place (reached (s .memory) place) in
+    pick (resting j place) idle a
+note-next j s (Drops p) = idle
+
 -- what step k was
 unfoldable pub note : Job → ℕ → Note
 note j zero = idle
-note j (suc k) =
-    let s : State = state-after j k in
-    let p : Place = s .places (j .entry (suc k)) in
-    let a : Note = acted p (reached (s .memory) p) in
-    pick (resting j p) idle a
+note j (suc k) = note-next j (state-after j k) (j .slot (suc k))

@@ -2,9 +2,11 @@
 -- before its first operation. Each step, also one that is idle or changes nothing, finds the shared memory and the places as the
 -- step before left them, and nothing else writes them."
 use Prim.Native.Nat.{ℕ, zero, suc, _-_}
-use mathlib.Core.Bool.{Bool}
+use mathlib.Core.Bool.{Bool, true, false}
 use Rattle.basics.specs.Choice.{pick, same, less}
 use Rattle.basics.specs.Maps.{upd}
+use Rattle.job.specs.declared.Slot.{Slot}
+use Rattle.job.specs.declared.Slot.the-variants.{Acts, Drops}
 use Rattle.job.specs.Job.{Job}
 use Rattle.machine.specs.declared.Row.{Row}
 use Rattle.machine.specs.declared.Place.{Place}
@@ -12,10 +14,11 @@ use Rattle.machine.specs.Memory.{Memory, fresh-memory}
 use Rattle.machine.specs.Table.{row-of, successor, ended, first-row}
 use Rattle.machine.specs.Access.{Registers, Reached, access}
 
--- shared memory, and "The eight places, one a process": here, of any number of processes
+-- shared memory; "The eight places, one a process": here, of any number of processes; and which operations have begun, made a step
 pub record State : Type 0 where
   pub memory : Memory
   pub places : ℕ → Place
+  pub begun : ℕ → Bool
 
 -- the first of the `count` numbers from `start` up that meets a test; if none does, the number after them
 unfoldable pub seek : (ℕ → Bool) → ℕ → ℕ → ℕ
@@ -35,7 +38,7 @@ before j o =
 
 -- "The run starts with fresh memory and every process before its first operation."
 unfoldable pub fresh-state : Job → State
-fresh-state j = record { memory = fresh-memory; places = λ p. before j (operation-after j p 0) }
+fresh-state j = record { memory = fresh-memory; places = λ p. before j (operation-after j p 0); begun = λ o. false }
 
 -- what the row of an operation does, with the operation's number, memory and registers
 unfoldable pub reach : Row → ℕ → Memory → Registers → Reached
@@ -64,16 +67,33 @@ place-after j process p a =
 unfoldable pub resting : Job → Place → Bool
 resting j p = less (j .count) (p .operation .0)
 
--- one step of a process. "a step changes the place of one process and nothing of the other seven"; "A scheduled process with no
--- operation remaining makes an idle step"
-unfoldable pub step : Job → ℕ → State → State
-step j process s =
+-- a process steps. "a step changes the place of one process and nothing of the other seven"; "A scheduled process with no operation
+-- remaining makes an idle step"
+unfoldable pub acting : Job → ℕ → State → State
+acting j process s =
     let p : Place = s .places process in
     let a : Reached = reached (s .memory) p in
     pick (resting j p) s
-    (record { memory = a .memory; places = upd (s .places) process (place-after j process p a) })
+    (record {
+      memory = a .memory;
+      places = upd (s .places) process (place-after j process p a);
+      begun = upd (s .begun) (p .operation .0) true;
+    })
+
+-- a process drops. Document 02, request 4: "process p drops its begun operation, then stands before its next; with none begun it is idle"
+unfoldable pub dropping : Job → ℕ → State → State
+dropping j process s =
+    let o : ℕ = s .places process .operation .0 in
+    pick (s .begun o)
+    (record { memory = s .memory; places = upd (s .places) process (before j (operation-after j process o)); begun = s .begun })
+    s
+
+-- one step, by what the schedule names for it
+unfoldable pub step : Job → Slot → State → State
+step j (Acts p) s = acting j (p .0) s
+step j (Drops p) s = dropping j (p .0) s
 
 -- the state after k steps of the schedule
 unfoldable pub state-after : Job → ℕ → State
 state-after j zero = fresh-state j
-state-after j (suc k) = step j (j .entry (suc k)) (state-after j k)
+state-after j (suc k) = step j (j .slot (suc k)) (state-after j k)

@@ -4,7 +4,7 @@ use mathlib.Core.List.{List, [], _++_}
 use lib.ListN.{length}
 use Rattle.basics.specs.Choice.{pick, same}
 use Rattle.basics.specs.Maps.{at}
-use Rattle.rows.specs.Operations.{HasOps, Cells, cells}
+use Rattle.rows.specs.Operations.{HasOps, Cells, cells, dropped-mark}
 use Rattle.rows.specs.Operations.Column.{Last, Start, Link, Taken, Stands}
 use Rattle.job.specs.declared.Operation.{Operation}
 use Rattle.machine.specs.Record.{Recorded}
@@ -16,11 +16,12 @@ use Rattle.lines.specs.Lines.{found-line}
 unfoldable pub here : ℕ → ℕ → Found → Found
 here own s f = pick (same own s) f Nothing
 
--- what stands at step s, made by operation o, 0 if it was idle: "Put: its changing Q3 or P3." A take: the line of its item. "Empty: its
+-- what stands at step s, made by operation o, 0 if nobody made it: "Put: its changing Q3 or P3." A take: the line of its item. "Empty: its
 -- last T1, or the R1 that read none." Document 02, request 3: "at the changing V4, at W2 for empty"
 unfoldable pub found : Cells → ℕ → Operation → Found
 found c s o =
-    let empty : Found = pick (same (c Last (o .0)) 0) Nothing (here (c Start (o .0)) s (Empty o)) in
+    let ended : Found = pick (same (c Last (o .0)) dropped-mark) Nothing (here (c Start (o .0)) s (Empty o)) in
+    let empty : Found = pick (same (c Last (o .0)) 0) Nothing ended in
     let takers : Found = here (c Stands (c Taken (o .0))) s (Takers (record { 0 = c Taken (o .0) })) in
     pick (same (o .0) 0) Nothing
     (pick (same (c Link (o .0)) 0) (pick (same (c Taken (o .0)) 0) empty takers) (here (c Link (o .0)) s (Put o)))

@@ -69,7 +69,11 @@ fn found_at(ops: &[u16], s: Step, o: Operation) -> Found
         }
         return Found::Takers(Operation(item));
     }
-    if cell(ops, rows::OPS, o.0, rows::LAST) == 0 {
+    let last = cell(ops, rows::OPS, o.0, rows::LAST);
+    if last == 0 {
+        return Found::Nothing;
+    }
+    if last == rows::DROPPED {
         return Found::Nothing;
     }
     if cell(ops, rows::OPS, o.0, rows::START) != s.0 {

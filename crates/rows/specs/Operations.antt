@@ -8,7 +8,7 @@ use Rattle.rows.specs.Rows.{column, HasRows}
 pub data Column : Type 0 where
   -- an operation's first step
   First : Column
-  -- its last step
+  -- its last step, or that it was dropped
   Last : Column
   -- its last T1, R1 or W2
   Start : Column
@@ -27,6 +27,10 @@ number Start = 2
 number Link = 3
 number Taken = 4
 number Stands = 5
+
+-- what stands for the last step of a dropped operation, which has none: no step has this number
+abbrev pub dropped-mark : ℕ
+dropped-mark = 65535
 
 -- how many they are
 abbrev pub op-width : ℕ

@@ -27,7 +27,8 @@ use Rattle.access.specs.Nodes.{memory-of}
 use Rattle.step.specs.declared.Stepped.{Stepped}
 use Rattle.step.specs.Promise.{IsStep, event-at}
 use Rattle.journal.specs.Stored.{Stored}
-use Rattle.journal.proofs.Whole.{answers-at-end, holds-idle, holds-acts}
+use Rattle.machine.proofs.Slots.{answers-at-end}
+use Rattle.journal.proofs.Whole.{holds-idle, holds-acts}
 use Rattle.run.specs.Promise.{nowhere, InPlace, Ran}
 
 -- the step of a place, from memory and with the answer of the code, as the definition has it

@@ -1,23 +1,24 @@
 -- From the laws of the course that a job's run is to Explained, once, for every object. Assumes nothing.
 use mathlib.Core.Path.{_≡_, refl, sym, ap, subst, _∙_}
 use mathlib.Core.Logic.{_≢_}
-use Prim.Native.Nat.{ℕ, _<_}
+use Prim.Native.Nat.{ℕ, _≤_, _<_}
 use mathlib.Core.Bool.{true, false, not, _&&_, _||_, true≢false, or-true, and-false}
 use mathlib.Core.List.{List, List·Memᴰ}
 use native.Mathlib.Omega.{arith}
 use Rattle.basics.specs.Choice.{same}
-use Rattle.basics.proofs.Choice.{equal-same, unequal-same}
+use Rattle.basics.proofs.Choice.{same-equal, equal-same, unequal-same}
 use Rattle.job.specs.declared.Kind.{Kind}
 use Rattle.job.specs.Job.{Job}
 use Rattle.machine.specs.Multiplicity.{Line}
 use Rattle.machine.specs.Multiplicity.Line.{put, takes, empty}
 use Rattle.machine.specs.Notes.{Answer, Note, note}
-use Rattle.machine.specs.Journal.{last, answer, start, link, join, taken}
+use Rattle.machine.specs.Journal.{made, first, last, answer, start, link, join, taken}
 use Rattle.machine.specs.Effects.{takers, takes-at, effect, is-stack, took-effect, Precedes, Overlap}
 use Rattle.machine.specs.Effects.Effect.{none, stands}
+use Rattle.machine.specs.Drops.{drop}
 use Rattle.machine.specs.Record.{Recorded, the-record}
 use Rattle.machine.specs.Left.{left}
-use Rattle.machine.specs.Explained.{members, times, Says, OpenLine, Answered, InEffect, IsOperation, Explained}
+use Rattle.machine.specs.Explained.{members, times, Says, OpenLine, Answered, InEffect, Dropped, IsOperation, Explained}
 use Rattle.machine.specs.Explained.OpenLine.{its-put, its-takes}
 use Rattle.machine.proofs.Effected.{Effected, effected, effect-of-put, taker-in}
 use Rattle.machine.proofs.Effected.Effected.{by-put, by-take, by-empty, by-none}
@@ -26,13 +27,14 @@ use Rattle.theory.proofs.Phases.{Phase}
 use Rattle.theory.proofs.Phases.Phase.{going, in-round, linked, joined, done, got, bare}
 use Rattle.theory.proofs.Course.{listing}
 use Rattle.theory.proofs.Deeds.{deeds, Did, Going}
-use Rattle.theory.proofs.Life.{life, linked-is-put, joined-is-take}
+use Rattle.theory.proofs.Life.{operation-some, life, linked-is-put, joined-is-take}
 use Rattle.theory.proofs.Lines.{effect-of-taker, effect-of-empty}
 use Rattle.theory.proofs.Laws.{Laws}
 use Rattle.theory.proofs.Operations.{course}
 use Rattle.theory.proofs.Operations.Locals.{memory}
+use Rattle.theory.proofs.Operations.Drops.{no-step-behind, no-last, dropped-begun}
 use Rattle.theory.proofs.Explains.Plays.{plays, conserves}
-use Rattle.theory.proofs.Explains.Owns.{Member, member, Own, own}
+use Rattle.theory.proofs.Explains.Owns.{Member, member, Own, own, own-to-last}
 use Rattle.theory.proofs.Explains.Once.{with-effect, without-effect}
 pub mod Plays
 pub mod Owns
@@ -75,7 +77,7 @@ module _ (j : Job) (k : ℕ) (laws : Laws (course j) k) where
         once = with-effect (course j) k o s line e w;
         its-answer = says;
         from-first = w .from-first;
-        to-last = w .to-last ended;
+        to-last = own-to-last op w ended;
       }
 
   in-effect-by : (o : ℕ) → IsOperation (j .count) o → (s : ℕ) (line : Line) → effect (j .object) (note j) (j .count) k o ≡ stands s line → OpenLine j k o (record { step = s; line = line }) → InEffect j k o
@@ -153,19 +155,35 @@ module _ (j : Job) (k : ℕ) (laws : Laws (course j) k) where
   -- one that ended before the other began stands in an earlier line
   orders : (r s : Recorded) → List·Memᴰ r (the-record j k) → List·Memᴰ s (the-record j k) → (o q : ℕ) → List·Memᴰ o (members (r .line)) → List·Memᴰ q (members (s .line)) → Precedes (note j) k o q → r .step < s .step
   orders r s hr hs o q mo mq p =
-      let a : Own (course j) k o (r .step) (r .line) = owned r hr o mo .1 in
+      let a : IsOperation (j .count) o × Own (course j) k o (r .step) (r .line) = owned r hr o mo in
       let b : Own (course j) k q (s .step) (s .line) = owned s hs q mq .1 in
-      omega (arith, a .to-last (p .ended))
+      omega (arith, own-to-last (a .0) (a .1) (p .ended), b .from-first)
 
   -- both are begun and not ended at their line's step
   overlaps : (s item : ℕ) (takers : List ℕ) → List·Memᴰ (record { step = s; line = takes item takers }) (the-record j k) → (o q : ℕ) → List·Memᴰ o takers → List·Memᴰ q takers → Overlap (note j) k o q
   unfolding members
   overlaps s item takers h o q mo mq =
-      let a : Own (course j) k o s (takes item takers) = owned (record { step = s; line = takes item takers }) h o mo .1 in
-      let b : Own (course j) k q s (takes item takers) = owned (record { step = s; line = takes item takers }) h q mq .1 in
+      let a : IsOperation (j .count) o × Own (course j) k o s (takes item takers) = owned (record { step = s; line = takes item takers }) h o mo in
+      let b : IsOperation (j .count) q × Own (course j) k q s (takes item takers) = owned (record { step = s; line = takes item takers }) h q mq in
       record {
-        not-before = λ p. omega (arith, a .to-last (p .ended));
-        not-after = λ p. omega (arith, b .to-last (p .ended));
+        not-before = λ p. omega (arith, own-to-last (a .0) (a .1) (p .ended), b .1 .from-first);
+        not-after = λ p. omega (arith, own-to-last (b .0) (b .1) (p .ended), a .1 .from-first);
+      }
+
+  -- the line of a dropped operation is not after some step of its own, and it makes none behind its drop
+  drops-before : (o : ℕ) → IsOperation (j .count) o → drop j k o ≢ 0 → Dropped j k o
+  unfolding made
+  drops-before o op found =
+      let some : o ≢ 0 = operation-some op in
+      let begun : (first (note j) k o ≢ 0) × (first (note j) k o < drop j k o) = dropped-begun j k o some found in
+      record {
+        begun = begun .0;
+        from-first = begun .1;
+        no-last = no-last j k o some found;
+        no-step-behind = λ s upto by. no-step-behind j k o s some found by;
+        no-later = λ r h m.
+            (let w : Own (course j) k o (r .step) (r .line) = owned r h o m .1 in
+            omega (arith, w .to-own, no-step-behind j k o (w .own-step) some found (same-equal (w .is-own))));
       }
 
   pub explains : Explained j k
@@ -177,6 +195,7 @@ module _ (j : Job) (k : ℕ) (laws : Laws (course j) k) where
         answered = answers;
         in-effect = takes-effect;
         without-effect = takes-no-effect;
+        dropped = drops-before;
         operations = λ r h o m. owned r h o m .0;
         ordered = orders;
         overlapping = overlaps;

@@ -2,6 +2,7 @@
 -- operation's, and nothing above this file knows of processes. Assumes nothing.
 pub mod Locals
 pub mod Hands
+pub mod Drops
 use mathlib.Core.Path.{_≡_, refl, sym, ap, subst, _∙_}
 use mathlib.Core.Logic.{_≢_, _⊎_, inl, inr}
 use Prim.Native.Nat.{ℕ, zero, suc, _≤_, _<_}
@@ -17,7 +18,8 @@ use Rattle.machine.proofs.Turns.Locals.{reaches, local-after}
 use Rattle.theory.proofs.Course.{listing, Passes, Acts, Course}
 use Rattle.theory.proofs.Life.{operation-some}
 use Locals.{memory, local}
-use Hands.{place-of, InHand, in-hand, rests, steps-on, actor-resting, actor-moving, local-zero, local-own, local-other}
+use Hands.{place-of, Acting, OneStep, one-step, by-own, local-zero, local-own, local-other}
+use Hands.OneStep.{idles, drops, acts}
 
 -- operation o makes step k + 1, as the definitions have it
 record StepMade (j : Job) (k o : ℕ) : Type 0 where
@@ -29,41 +31,39 @@ record StepMade (j : Job) (k o : ℕ) : Type 0 where
   event : note j (suc k) .event ≡ event-of (row-of (local j k o .row) .access) (reaches o (memory j k) (local j k o) .outcome) (reaches o (memory j k) (local j k o) .registers)
   answer : note j (suc k) .answer ≡ answer-of (local j (suc k) o .row) (local j (suc k) o .registers)
 
-module _ (j : Job) (k o : ℕ) (h : InHand j k (j .entry (suc k)) o) where
-  passes : j .count < o → Passes (note j) (memory j) (local j) k
-  unfolding memory
-  passes past =
-      record {
-        nothing = rests j k o h past .1;
-        memory-kept = ap (λ s. s .memory) (rests j k o h past .0);
-        locals-kept = λ q n. local-other j k q (λ e. n (sym e ∙ actor-resting j k o h past));
-      }
+-- a step that nobody makes leaves every operation where it is
+passes : (j : Job) (k : ℕ) → memory j (suc k) ≡ memory j k → note j (suc k) ≡ idle → Passes (note j) (memory j) (local j) k
+unfolding idle
+passes j k kept nothing =
+    record {
+      nothing = nothing;
+      memory-kept = kept;
+      locals-kept = λ q n. local-other j k q (λ e. n (sym e ∙ ap (λ x. x .by) nothing));
+    }
 
-  makes : o ≤ j .count → StepMade j k o
-  unfolding memory acted place-of row-after local-after reaches
-  makes to-count =
-      let by : note j (suc k) .by ≡ o = actor-moving j k o h to-count in
-      let own-after : local j (suc k) o ≡ local-after o (memory j k) (local j k o) = local-own j k o by in
-      record {
-        operation = record { from-one = h .from-one; to-count = to-count };
-        going = h .going;
-        by = by;
-        memory-after = ap (λ s. s .memory) (steps-on j k o h to-count .0);
-        own-after = own-after;
-        event = ap (λ x. x .event) (steps-on j k o h to-count .1);
-        answer = ap (λ x. x .answer) (steps-on j k o h to-count .1) ∙ ap (λ l. answer-of (l .row) (l .registers)) (sym own-after);
-      }
+makes : {j : Job} {k p o : ℕ} → Acting j k p o → StepMade j k o
+unfolding memory acted place-of row-after local-after reaches
+makes {j} {k} {o = o} a =
+    let own-after : local j (suc k) o ≡ local-after o (memory j k) (local j k o) = local-own j k o (by-own a) in
+    record {
+      operation = record { from-one = a .hand .from-one; to-count = a .to-count };
+      going = a .hand .going;
+      by = by-own a;
+      memory-after = ap (λ s. s .memory) (a .state);
+      own-after = own-after;
+      event = ap (λ x. x .event) (a .said);
+      answer = ap (λ x. x .answer) (a .said) ∙ ap (λ l. answer-of (l .row) (l .registers)) (sym own-after);
+    }
 
--- every step is idle or an operation's
+-- to the object every step is an operation's or nobody's: it cannot tell a drop from an idle step
 step-made : (j : Job) (k : ℕ) → Passes (note j) (memory j) (local j) k ⊎ ((o : ℕ) × StepMade j k o)
-step-made j k = by-count (in-hand j k (j .entry (suc k)))
+unfolding memory
+step-made j k = by-step (one-step j k)
   where
-    by-rest : (o : ℕ) → InHand j k (j .entry (suc k)) o → (o ≤ j .count) ⊎ (j .count < o) → Passes (note j) (memory j) (local j) k ⊎ ((o : ℕ) × StepMade j k o)
-    by-rest o h (inl to-count) = inr (o, makes j k o h to-count)
-    by-rest o h (inr past) = inl (passes j k o h past)
-
-    by-count : ((o : ℕ) × InHand j k (j .entry (suc k)) o) → Passes (note j) (memory j) (local j) k ⊎ ((o : ℕ) × StepMade j k o)
-    by-count held = by-rest (held .0) (held .1) (compare (held .0) (j .count))
+    by-step : OneStep j k → Passes (note j) (memory j) (local j) k ⊎ ((o : ℕ) × StepMade j k o)
+    by-step (idles i) = inl (passes j k (ap (λ s. s .memory) (i .state)) (i .said))
+    by-step (drops d) = inl (passes j k (ap (λ s. s .memory) (d .state)) (d .said))
+    by-step (acts {o = o} a) = inr (o, makes a)
 
 module _ (j : Job) where
   turned : (k o : ℕ) → StepMade j k o → listing (j .object) .On (local j k o) → listing (j .object) .Turn o (memory j k) (local j k o) (memory j (suc k)) (local j (suc k) o) (note j (suc k) .event) (note j (suc k) .answer)

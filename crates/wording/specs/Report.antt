@@ -13,6 +13,7 @@ use Rattle.machine.specs.Multiplicity.{Line}
 use Rattle.machine.specs.Multiplicity.Line.{put, takes, empty}
 use Rattle.machine.specs.Notes.{Answer, note}
 use Rattle.machine.specs.Journal.{first, last, answer}
+use Rattle.machine.specs.Drops.{drop}
 use Rattle.machine.specs.Record.{Recorded, the-record}
 use Rattle.machine.specs.Left.{left}
 
@@ -33,14 +34,20 @@ answer-text j Answer.done = text " done"
 answer-text j (Answer.item n) = text " item " ++ decimal n ++ text " value " ++ stage-text (j .field n)
 answer-text j Answer.empty = text " empty"
 
--- `first 1 last 4 done`; "An open one reads `last - open`, one not begun `first - last - waiting`."
+-- `last 4 done`; "An open one reads `last - open`"; document 02, request 4: "A dropped operation prints `last - dropped`"
+unfoldable pub end-text : Job → ℕ → ℕ → List ℕ
+end-text j k o =
+    pick (same (last (note j) k o) 0) (pick (same (drop j k o) 0) (text "- open") (text "- dropped"))
+    (decimal (last (note j) k o) ++ answer-text j (answer (note j) k o))
+
+-- `first 1 last 4 done`; "one not begun `first - last - waiting`."
 unfoldable pub progress-text : Job → ℕ → ℕ → List ℕ
 progress-text j k o =
     pick (same (first (note j) k o) 0) (text " first - last - waiting")
     (text " first "
     ++ decimal (first (note j) k o)
     ++ text " last "
-    ++ pick (same (last (note j) k o) 0) (text "- open") (decimal (last (note j) k o) ++ answer-text j (answer (note j) k o)))
+    ++ end-text j k o)
 
 -- `op 1 process 0 put 50 first 1 last 4 done`
 unfoldable pub operation-line : Job → ℕ → ℕ → List ℕ

@@ -81,7 +81,14 @@ pub record Own {kind : Kind} (c : Course kind) (k o s : ℕ) (line : Line) : Typ
   pub its-line : List·Memᴰ o (members line)
   pub begun : first (c .log) k o ≢ 0
   pub from-first : first (c .log) k o ≤ s
-  pub to-last : last (c .log) k o ≢ 0 → s ≤ last (c .log) k o
+  -- not after some step that the operation made, so not after its last
+  pub own-step : ℕ
+  pub is-own : made (c .log) o own-step ≡ true
+  pub among : own-step ≤ k
+  pub to-own : s ≤ own-step
+
+pub own-to-last : {kind : Kind} {c : Course kind} {k o s : ℕ} {line : Line} → IsOperation (c .count) o → Own c k o s line → last (c .log) k o ≢ 0 → s ≤ last (c .log) k o
+own-to-last {c = c} {k = k} {o = o} op w ended = omega (arith, w .to-own, made-to-last c k o (w .own-step) op (w .is-own) (w .among) ended)
 
 -- an effect at a step that the operation made itself
 own-of-maker : {kind : Kind} (c : Course kind) (k o s : ℕ) (line : Line) → IsOperation (c .count) o → c .log s .by ≡ o → s ≢ 0 → s ≤ k → effect kind (c .log) (c .count) k o ≡ stands s line → List·Memᴰ o (members line) → Own c k o s line
@@ -96,7 +103,10 @@ own-of-maker {kind} c k o s line op b low high e m =
       its-line = m;
       begun = f .0;
       from-first = f .1;
-      to-last = made-to-last c k o s op own-step high;
+      own-step = s;
+      is-own = own-step;
+      among = high;
+      to-own = omega arith;
     }
 
 join-made : {kind : Kind} (c : Course kind) (k o : ℕ) → join (c .log) k o ≢ 0 → made (c .log) o (join (c .log) k o) ≡ true
@@ -135,7 +145,10 @@ module _ {kind : Kind} (c : Course kind) (k : ℕ) (laws : Laws c k) (o : ℕ) (
         its-line = taker-in (c .log) (c .count) k o item op refl;
         begun = f .0;
         from-first = from;
-        to-last = λ h. (let l : join (c .log) k o ≤ last (c .log) k o = made-to-last c k o (join (c .log) k o) op own-step (join-le (c .log) k o) h in omega arith);
+        own-step = join (c .log) k o;
+        is-own = own-step;
+        among = join-le (c .log) k o;
+        to-own = to;
       }
 
   pub own : (s : ℕ) (line : Line) → effect kind (c .log) (c .count) k o ≡ stands s line → Own c k o s line
