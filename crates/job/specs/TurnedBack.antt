@@ -11,6 +11,7 @@ use Rattle.basics.specs.Words.{word, word-bytes}
 use Rattle.block.specs.Block.{block-size, payload-size, summed-size, add-byte, add-bytes, sums, block, payload-of, sum-differs, misplaced, block-refusal}
 use Rattle.job.specs.Limits.{field, most-file}
 use Rattle.job.specs.Kind.{kind-number, kinds, look-up, kind-of, is-missing}
+use Rattle.job.specs.Slot.{slot-of, process-of}
 use Rattle.job.specs.Stream.{kind, processes, operations, schedule-length, record-at, process, action, value, scheduled, stream-length}
 use Rattle.job.specs.Refusals.{first-met, any, outside, bad-kind, bad-processes, bad-operations, bad-schedule-length, exact-count, bad-record, bad-records, bad-entry, bad-schedule, bad-padding, header-conditions, list-conditions}
 use Rattle.job.specs.File.{zeros, block-at, block-count, payloads, joined, bad-length, blocks-refusal, bad-count, stream-refusal, file-refusal}
@@ -88,6 +89,12 @@ refusals =
     ∷ record { file = holding 0 (stream 1 1 (put 1 500 ∷ []) (1 ∷ [])); number = 10 }
     -- "schedule | 11 | an entry of P or more"
     ∷ record { file = holding 0 (stream 1 1 (put 0 500 ∷ []) (0 ∷ 1 ∷ [])); number = 11 }
+    -- document 02, request 4: "entries whose process, after taking off 128 where it is 128 or more, is P or more": 128 + p is taken for each
+    -- process p, 128 + P is not; nor are 127 and 255, whose process is 127
+    ∷ record { file = holding 0 (stream 1 2 (put 0 500 ∷ []) (0 ∷ 128 ∷ 129 ∷ 1 ∷ [])); number = 0 }
+    ∷ record { file = holding 0 (stream 1 2 (put 0 500 ∷ []) (0 ∷ 130 ∷ [])); number = 11 }
+    ∷ record { file = holding 0 (stream 1 2 (put 0 500 ∷ []) (0 ∷ 127 ∷ [])); number = 11 }
+    ∷ record { file = holding 0 (stream 1 2 (put 0 500 ∷ []) (0 ∷ 255 ∷ [])); number = 11 }
     -- both 11 and 12
     ∷ record { file = holding 0 (stream 1 1 (put 0 500 ∷ []) (0 ∷ 1 ∷ []) ++ 1 ∷ []); number = 11 }
     -- "padding | 12 | a byte not zero": the first, and the last
@@ -96,5 +103,5 @@ refusals =
     ∷ []
 
 pub refusals-proved : map (λ r. file-refusal field (r .file)) refusals ≡ map (λ r. r .number) refusals
-unfolding put take joined-records header stream holding damaged good refusals pick same less at word word-bytes block-size payload-size summed-size add-byte add-bytes sums block payload-of sum-differs misplaced block-refusal kind-number kinds look-up kind-of is-missing kind processes operations schedule-length record-at process action value scheduled stream-length first-met any outside bad-kind bad-processes bad-operations bad-schedule-length exact-count bad-record bad-records bad-entry bad-schedule bad-padding header-conditions list-conditions most-file zeros block-at block-count payloads joined bad-length blocks-refusal bad-count stream-refusal file-refusal
+unfolding put take joined-records header stream holding damaged good refusals pick same less at word word-bytes block-size payload-size summed-size add-byte add-bytes sums block payload-of sum-differs misplaced block-refusal kind-number kinds look-up kind-of is-missing kind processes operations schedule-length record-at process action value scheduled stream-length first-met any outside bad-kind bad-processes bad-operations bad-schedule-length exact-count bad-record bad-records bad-entry bad-schedule bad-padding header-conditions list-conditions most-file zeros block-at block-count payloads joined bad-length blocks-refusal bad-count stream-refusal file-refusal slot-of process-of
 refusals-proved = refl
