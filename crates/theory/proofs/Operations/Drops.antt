@@ -12,7 +12,7 @@ use Rattle.basics.proofs.Maps.{upd-here, upd-there}
 use Rattle.job.specs.Job.{Job}
 use Rattle.machine.specs.declared.Place.{Place}
 use Rattle.machine.specs.Table.{ended}
-use Rattle.machine.specs.Run.{before, operation-after, fresh-state, state-after}
+use Rattle.machine.specs.Run.{before, operation-after, row-after, fresh-state, state-after}
 use Rattle.machine.specs.Notes.{is-answer, idle, acted, note}
 use Rattle.machine.specs.Journal.{made, ends, first, last}
 use Rattle.machine.specs.Drops.{dropped, drop}
@@ -20,7 +20,7 @@ use Rattle.machine.specs.Explained.{IsOperation}
 use Rattle.machine.proofs.Searches.{earliest-meets}
 use Rattle.machine.proofs.Stamps.{first-zero, first-other, first-new, first-stays, first-le, drop-le, drop-drops, drop-stays}
 use Rattle.machine.proofs.Slots.{answers-at-end}
-use Rattle.machine.proofs.Turns.Locals.{local-after}
+use Rattle.machine.proofs.Turns.Locals.{reaches, local-after}
 use Rattle.theory.proofs.Operations.Locals.{memory, local}
 use Rattle.theory.proofs.Operations.Hands.{place-of, InHand, next-place, next-after, Acting, Dropping, Idling, OneStep, one-step, by-own, by-nobody, place-moved, place-ended, place-dropped}
 use Rattle.theory.proofs.Operations.Hands.OneStep.{idles, drops, acts}
@@ -35,13 +35,13 @@ module _ (j : Job) where
   hand-of h = ap (λ x. x .operation .0) (h .place-is)
 
   -- behind an operation that gave way
-  hand-after : {k p o : ℕ} → o ≤ j .count → state-after j (suc k) .places p ≡ before j (operation-after j p o) → o < hand j (suc k) p
+  hand-after : (k p : ℕ) {o : ℕ} → o ≤ j .count → state-after j (suc k) .places p ≡ before j (operation-after j p o) → o < hand j (suc k) p
   unfolding hand before
-  hand-after {p = p} {o = o} to-count e = subst (λ (x : Place). o < x .operation .0) (sym e) (next-after j p o to-count)
+  hand-after k p {o} to-count e = subst (λ (x : Place). o < x .operation .0) (sym e) (next-after j p o to-count)
 
-  hand-kept : {k p : ℕ} → state-after j (suc k) .places p ≡ state-after j k .places p → hand j k p ≤ hand j (suc k) p
+  hand-kept : (k p : ℕ) → state-after j (suc k) .places p ≡ state-after j k .places p → hand j k p ≤ hand j (suc k) p
   unfolding hand
-  hand-kept {k} {p} e = let same-one : hand j (suc k) p ≡ hand j k p = ap (λ (x : Place). x .operation .0) e in omega arith
+  hand-kept k p e = let same-one : hand j (suc k) p ≡ hand j k p = ap (λ (x : Place). x .operation .0) e in omega arith
 
   hand-moved : {k p o : ℕ} → Acting j k p o → hand j k p ≤ hand j (suc k) p
   unfolding hand next-place place-of before
@@ -60,17 +60,17 @@ module _ (j : Job) where
   hand-grows-by k p = by-step (one-step j k)
     where
       by-step : OneStep j k → hand j k p ≤ hand j (suc k) p
-      by-step (idles i) = hand-kept (ap (λ s. s .places p) (i .state))
+      by-step (idles i) = hand-kept k p (ap (λ s. s .places p) (i .state))
       by-step (drops {p = r} {o = o} d) = go (split p r)
         where
           go : (p ≡ r) ⊎ (p ≢ r) → hand j k p ≤ hand j (suc k) p
-          go (inl e) = subst (λ x. hand j k x ≤ hand j (suc k) x) (sym e) (let now : hand j k r ≡ o = hand-of (d .hand) in omega (arith, hand-after {k = k} (d .to-count) (place-dropped d)))
-          go (inr n) = hand-kept (ap (λ s. s .places p) (d .state) ∙ upd-there _ _ _ n)
+          go (inl e) = subst (λ x. hand j k x ≤ hand j (suc k) x) (sym e) (let now : hand j k r ≡ o = hand-of (d .hand) in omega (arith, hand-after k r (d .to-count) (place-dropped d)))
+          go (inr n) = hand-kept k p (ap (λ s. s .places p) (d .state) ∙ upd-there _ _ _ n)
       by-step (acts {p = r} {o = o} a) = go (split p r)
         where
           go : (p ≡ r) ⊎ (p ≢ r) → hand j k p ≤ hand j (suc k) p
           go (inl e) = subst (λ x. hand j k x ≤ hand j (suc k) x) (sym e) (hand-moved a)
-          go (inr n) = hand-kept (ap (λ s. s .places p) (a .state) ∙ upd-there _ _ _ n)
+          go (inr n) = hand-kept k p (ap (λ s. s .places p) (a .state) ∙ upd-there _ _ _ n)
 
   hand-grows : (p k l : ℕ) → k ≤ l → hand j k p ≤ hand j l p
   hand-grows p k zero h = let z : k ≡ 0 = omega arith in subst (λ x. hand j x p ≤ hand j 0 p) (sym z) (omega arith)
@@ -79,6 +79,11 @@ module _ (j : Job) where
       go : (k ≡ suc l) ⊎ (k ≢ suc l) → (k ≤ l → hand j k p ≤ hand j l p) → hand j k p ≤ hand j (suc l) p
       go (inl e) below = subst (λ x. hand j x p ≤ hand j (suc l) p) (sym e) (omega arith)
       go (inr n) below = omega (arith, below (omega arith), hand-grows-by l p)
+
+  -- a step that answers ends its operation
+  answered-ends : {k p o : ℕ} → Acting j k p o → is-answer (note j (suc k) .answer) ≡ true → ended (local-after o (memory j k) (local j k o) .row) ≡ true
+  unfolding acted place-of row-after local-after reaches
+  answered-ends a t = sym (answers-at-end _ _) ∙ ap (λ x. is-answer (x .answer)) (sym (a .said)) ∙ t
 
   -- who makes a step is in its owner's hand before it, and the owner's hand is past it if it ended
   record Makes (k o : ℕ) : Type 0 where
@@ -90,15 +95,12 @@ module _ (j : Job) where
   unfolding idle
   makes k o some by = by-step (one-step j k)
     where
-      answered-ends : {p q : ℕ} → Acting j k p q → is-answer (note j (suc k) .answer) ≡ true → ended (local-after q (memory j k) (local j k q) .row) ≡ true
-      answered-ends a t = sym (answers-at-end _ _) ∙ ap (λ x. is-answer (x .answer)) (sym (a .said)) ∙ t
-
       by-actor : {p q : ℕ} → Acting j k p q → q ≡ o → Makes k o
       by-actor {p} {q} a e =
           let own : j .owner o ≡ p = ap (j .owner) (sym e) ∙ a .hand .owned (a .to-count) in
           record {
             in-hand = ap (hand j k) own ∙ hand-of (a .hand) ∙ e;
-            past-end = λ t. subst (λ x. o < hand j (suc k) x) (sym own) (subst (λ x. x < hand j (suc k) p) e (hand-after {k = k} (a .to-count) (place-ended a (answered-ends a t))));
+            past-end = λ t. subst (λ x. o < hand j (suc k) x) (sym own) (subst (λ x. x < hand j (suc k) p) e (hand-after k p (a .to-count) (place-ended a (answered-ends a t))));
             drops-none = a .drops-none;
           }
 
@@ -122,7 +124,7 @@ module _ (j : Job) where
           let own : j .owner o ≡ p = ap (j .owner) (sym is) ∙ d .hand .owned (d .to-count) in
           record {
             in-hand = ap (hand j k) own ∙ hand-of (d .hand) ∙ is;
-            past = subst (λ x. o < hand j (suc k) x) (sym own) (subst (λ x. x < hand j (suc k) p) is (hand-after {k = k} (d .to-count) (place-dropped d)));
+            past = subst (λ x. o < hand j (suc k) x) (sym own) (subst (λ x. x < hand j (suc k) p) is (hand-after k p (d .to-count) (place-dropped d)));
             begun = ap (state-after j k .begun) (sym is) ∙ d .begun;
             nobody = by-nobody d;
           }
