@@ -37,6 +37,7 @@ fn operation(operation: &Operation) -> String {
         Ending::Done => "done",
         Ending::Empty => "empty",
         Ending::Open => "open",
+        Ending::Dropped => "dropped",
         Ending::Waiting => "waiting",
         Ending::Item(item, value) => {
             fields.extend([("item", item.to_string()), ("value", value.to_string())]);
