@@ -6,7 +6,7 @@ use bench_command::text::{parse, print};
 use pigwazet::limits::{OPERATIONS, STEPS};
 use pigwazet::{Action, Job, Kind, Operation};
 use rayon::prelude::*;
-use shared::{Room, generated, samples};
+use shared::{Room, generated, samples, with_drops};
 
 /// A file as text, and the file made of that text.
 fn there_and_back(file: &[u8]) -> (String, Vec<u8>) {
@@ -18,10 +18,11 @@ fn there_and_back(file: &[u8]) -> (String, Vec<u8>) {
 #[test]
 fn make_after_text_gives_the_very_file() {
     // as many jobs as the second replayer is compared on
-    (0..40_000).into_par_iter().for_each(|seed| {
-        let (_, file) = generated(seed);
-        let (text, again) = there_and_back(&file);
-        assert!(again == file, "seed {seed}:\n{text}");
+    (0..20_000).into_par_iter().for_each(|seed| {
+        for file in [generated(seed).1, with_drops(seed).1] {
+            let (text, again) = there_and_back(&file);
+            assert!(again == file, "seed {seed}:\n{text}");
+        }
     });
 }
 
@@ -61,6 +62,26 @@ fn a_linked_stack_has_a_word_of_its_own() {
 }
 
 #[test]
+fn a_drop_is_a_turn_and_repeats_as_any_other() {
+    let text = |order: &str| format!("queue\nprocesses 4\ntake 3\n{order}\n");
+    for (order, schedule) in [
+        ("order 0 0 drop 3 1 x 4", &[0, 0, 131, 1, 1, 1, 1][..]),
+        ("order drop 3 x 2", &[131, 131]),
+        ("order drop 0\norder 0\norder drop 0 drop 1 x 1 0", &[128, 0, 128, 129, 0]),
+    ] {
+        assert_eq!(parse::job(&text(order)).unwrap().schedule, schedule, "{order}");
+    }
+    let job = parse::job(&text("order drop 3 x 3 3 x 3 drop 3 drop 3")).unwrap();
+    assert!(print::job(&job).ends_with("\norder drop 3 x 3 3 x 3 drop 3 drop 3  # steps 1 to 8\n"));
+    let room = Room::new("drops-as-text");
+    room.write("hour.txt", text("order 3 drop 3 x 2"));
+    room.bench("make hour.txt").is(0, "", "hour.job: queue, 4 processes, 1 operation, 3 steps with 2 drops\n");
+    room.bench("text hour.job").tells(0, "\norder 3 drop 3 drop 3  # steps 1 to 3\n");
+    room.write("one.txt", text("order 3 drop 0"));
+    room.bench("make one.txt").is(0, "", "one.job: queue, 4 processes, 1 operation, 2 steps with 1 drop\n");
+}
+
+#[test]
 fn a_text_at_the_limits_is_a_job_and_one_past_them_is_not() {
     let puts = |count: usize| "put 7 -32768\n".repeat(count);
     let text = |operations: usize, steps: usize| format!("stack\nprocesses 8\n{}order 7 x {steps}\n", puts(operations));
@@ -83,6 +104,8 @@ fn with(line: &str) -> String {
 fn what_was_found_and_what_is_allowed() {
     let end = "the end of the line";
     let process = "a process, 0 to 2";
+    let turn = "a process, 0 to 2, or drop and one";
+    let turn_or_repeat = "a process, 0 to 2, or drop and one, or x and how often";
     for (line, found, allowed) in [
         ("pit 0 500", "'pit'", "a line that begins with queue, stack, linked, processes, put, take or order"),
         ("Take 1", "'Take'", "a line that begins with queue, stack, linked, processes, put, take or order"),
@@ -98,15 +121,25 @@ fn what_was_found_and_what_is_allowed() {
         ("put 0 500 on 2", "'on'", "the end of the line, or # and a comment"),
         ("take", end, process),
         ("take 1 0", "'0'", "the end of the line, or # and a comment"),
-        ("order", end, process),
+        ("put drop 0 500", "'drop'", process),
+        ("drop 1", "'drop'", "a line that begins with queue, stack, linked, processes, put, take or order"),
+        ("order", end, turn),
         ("order 0 x", end, "how often, 1 to 16,384"),
         ("order 0 x 0", "'0'", "how often, 1 to 16,384"),
-        ("order 0 x4", "'x4'", "a process, 0 to 2, or x and how often"),
-        ("order 0 x 4 x 4", "'x'", process),
+        ("order 0 x4", "'x4'", turn_or_repeat),
+        ("order 0 x 4 x 4", "'x'", turn),
         ("put\u{a0}0 500", "'put\u{a0}0'", "a line that begins with queue, stack, linked, processes, put, take or order"),
-        ("order x 4", "'x'", process),
-        ("order drop 1", "'drop'", process),
-        ("order 99999999999999999999", "'99999999999999999999'", process),
+        ("order x 4", "'x'", turn),
+        ("order 99999999999999999999", "'99999999999999999999'", turn),
+        ("order 0 dorp 1", "'dorp'", turn_or_repeat),
+        ("order Drop 1", "'Drop'", turn),
+        ("order 129", "'129'", turn),
+        ("order drop", end, process),
+        ("order 0 x 2 drop", end, process),
+        ("order drop 3", "'3'", process),
+        ("order drop x 2", "'x'", process),
+        ("order drop drop 1", "'drop'", process),
+        ("order drop 1 x", end, "how often, 1 to 16,384"),
         ("stack", "a second object, 'stack'", "one object"),
         ("linked", "a second object, 'linked'", "one object"),
         ("processes 3", "a second line of processes", "one"),
@@ -129,6 +162,7 @@ fn what_is_missing_is_told() {
         ("queue\n", 1, "the end of the text, and no line of processes"),
         ("queue\nprocesses 1\norder 0\n", 3, "the end of the text, and no operation"),
         ("queue\nput 0 5\nprocesses 1\n", 2, "no line of processes yet"),
+        ("queue\norder drop 0\nprocesses 1\n", 2, "no line of processes yet"),
         ("processes 1\ntake 0\n", 2, "the end of the text, and no object"),
         ("queue\nprocesses 9\nput 8 5\n", 2, "'9'"),
         ("queue\rprocesses 1\rput 0 5\r", 1, "'queue\\rprocesses'"),
