@@ -314,6 +314,22 @@ fn drops_in_words() {
     let only: Vec<&str> =
         out.lines().enumerate().filter(|(step, _)| [0, 8, 9, 10].contains(step)).map(|(_, line)| line).collect();
     room.bench("steps drops.job --op 3").is(0, &(only.join("\n") + "\n"), "");
+    room.write("linked.txt", "linked\nprocesses 2\nput 0 500\ntake 1\norder 0 x 4 drop 0 1 x 7 drop 1\n");
+    room.bench("make linked.txt").is(0, "", "linked.job: ");
+    let out = room.bench("steps linked.job").out;
+    for words in [
+        "drops operation 1, behind V4: reading 1 is in all the same\n",
+        "drops operation 2, behind W4: it had claimed reading 1 and does not get it\n",
+    ] {
+        assert!(out.contains(words), "{out}");
+    }
+}
+
+#[test]
+fn fates_of_dropped_puts() {
+    let room = Room::new("dropped-puts");
+    room.write("drops.txt", DROPS);
+    room.bench("make drops.txt").is(0, "", "drops.job: ");
     let fate = "Reading 1: 50 cm, put by operation 1 of process 0 (begun at step 1, dropped at step 4).
 The record has it coming into the queue at step 3, before its put was dropped.
 The record has it going out at step 18, to operation 4 of process 1 (steps 11 to 18).
@@ -324,15 +340,6 @@ It was taken once: no double.
 It is not in the record: its put was dropped before it came into the queue.
 ";
     room.bench("reading drops.job 2").is(0, fate, "");
-    room.write("linked.txt", "linked\nprocesses 2\nput 0 500\ntake 1\norder 0 x 4 drop 0 1 x 7 drop 1\n");
-    room.bench("make linked.txt").is(0, "", "linked.job: ");
-    let out = room.bench("steps linked.job").out;
-    for words in [
-        "drops operation 1, behind V4: reading 1 is in all the same\n",
-        "drops operation 2, behind W4: it had claimed reading 1 and does not get it\n",
-    ] {
-        assert!(out.contains(words), "{out}");
-    }
 }
 
 /// Three takes that claim one reading, and then a number of ends: who has it.

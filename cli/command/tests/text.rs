@@ -2,7 +2,8 @@
 
 mod shared;
 
-use bench_command::text::{parse, print};
+use bench_command::text::parse::{self, Wrong};
+use bench_command::text::print;
 use pigwazet::limits::{OPERATIONS, STEPS};
 use pigwazet::{Action, Job, Kind, Operation};
 use rayon::prelude::*;
@@ -100,57 +101,73 @@ fn with(line: &str) -> String {
     format!("queue\nprocesses 3\nput 0 500\n{line}\norder 0 1 2\n")
 }
 
+/// What is told of that line.
+#[track_caller]
+fn told(line: &str, found: &str, allowed: &str) {
+    let faults = parse::job(&with(line)).unwrap_err();
+    assert_eq!(faults.len(), 1, "{line}: {faults:?}");
+    let Wrong { found: told, allowed: instead } = &faults[0].wrong;
+    assert_eq!((faults[0].line, told.as_str(), instead.as_str()), (4, found, allowed), "{line}");
+}
+
+const END: &str = "the end of the line";
+const PROCESS: &str = "a process, 0 to 2";
+
 #[test]
 fn what_was_found_and_what_is_allowed() {
-    let end = "the end of the line";
-    let process = "a process, 0 to 2";
-    let turn = "a process, 0 to 2, or drop and one";
-    let turn_or_repeat = "a process, 0 to 2, or drop and one, or x and how often";
+    let begins = "a line that begins with queue, stack, linked, processes, put, take or order";
+    let stage = "a stage in mm, -32,768 to 32,767";
+    let comment = "the end of the line, or # and a comment";
     for (line, found, allowed) in [
-        ("pit 0 500", "'pit'", "a line that begins with queue, stack, linked, processes, put, take or order"),
-        ("Take 1", "'Take'", "a line that begins with queue, stack, linked, processes, put, take or order"),
-        ("bank", "'bank'", "a line that begins with queue, stack, linked, processes, put, take or order"),
-        ("put 3 500", "'3'", process),
-        ("put -1 500", "'-1'", process),
-        ("put +1 500", "'+1'", process),
-        ("put 0", end, "a stage in mm, -32,768 to 32,767"),
-        ("put 0 32768", "'32768'", "a stage in mm, -32,768 to 32,767"),
-        ("put 0 -32769", "'-32769'", "a stage in mm, -32,768 to 32,767"),
-        ("put 0 5.5", "'5.5'", "a stage in mm, -32,768 to 32,767"),
-        ("put 0 \u{2212}15", "'\u{2212}15', which does not begin with the - of a keyboard", "a stage in mm, -32,768 to 32,767"),
-        ("put 0 500 on 2", "'on'", "the end of the line, or # and a comment"),
-        ("take", end, process),
-        ("take 1 0", "'0'", "the end of the line, or # and a comment"),
-        ("put drop 0 500", "'drop'", process),
-        ("drop 1", "'drop'", "a line that begins with queue, stack, linked, processes, put, take or order"),
-        ("order", end, turn),
-        ("order 0 x", end, "how often, 1 to 16,384"),
-        ("order 0 x 0", "'0'", "how often, 1 to 16,384"),
-        ("order 0 x4", "'x4'", turn_or_repeat),
-        ("order 0 x 4 x 4", "'x'", turn),
-        ("put\u{a0}0 500", "'put\u{a0}0'", "a line that begins with queue, stack, linked, processes, put, take or order"),
-        ("order x 4", "'x'", turn),
-        ("order 99999999999999999999", "'99999999999999999999'", turn),
-        ("order 0 dorp 1", "'dorp'", turn_or_repeat),
-        ("order Drop 1", "'Drop'", turn),
-        ("order 129", "'129'", turn),
-        ("order drop", end, process),
-        ("order 0 x 2 drop", end, process),
-        ("order drop 3", "'3'", process),
-        ("order drop x 2", "'x'", process),
-        ("order drop drop 1", "'drop'", process),
-        ("order drop 1 x", end, "how often, 1 to 16,384"),
+        ("pit 0 500", "'pit'", begins),
+        ("Take 1", "'Take'", begins),
+        ("bank", "'bank'", begins),
+        ("drop 1", "'drop'", begins),
+        ("put\u{a0}0 500", "'put\u{a0}0'", begins),
+        ("put 3 500", "'3'", PROCESS),
+        ("put -1 500", "'-1'", PROCESS),
+        ("put +1 500", "'+1'", PROCESS),
+        ("put drop 0 500", "'drop'", PROCESS),
+        ("put 0", END, stage),
+        ("put 0 32768", "'32768'", stage),
+        ("put 0 -32769", "'-32769'", stage),
+        ("put 0 5.5", "'5.5'", stage),
+        ("put 0 \u{2212}15", "'\u{2212}15', which does not begin with the - of a keyboard", stage),
+        ("put 0 500 on 2", "'on'", comment),
+        ("take", END, PROCESS),
+        ("take 1 0", "'0'", comment),
         ("stack", "a second object, 'stack'", "one object"),
         ("linked", "a second object, 'linked'", "one object"),
         ("processes 3", "a second line of processes", "one"),
     ] {
-        let faults = parse::job(&with(line)).unwrap_err();
-        assert_eq!(faults.len(), 1, "{line}: {faults:?}");
-        assert_eq!(
-            (faults[0].line, faults[0].wrong.found.as_str(), faults[0].wrong.allowed.as_str()),
-            (4, found, allowed),
-            "{line}"
-        );
+        told(line, found, allowed);
+    }
+}
+
+#[test]
+fn what_is_wrong_in_an_order() {
+    let turn = "a process, 0 to 2, or drop and one";
+    let turn_or_repeat = "a process, 0 to 2, or drop and one, or x and how often";
+    let count = "how often, 1 to 16,384";
+    for (line, found, allowed) in [
+        ("order", END, turn),
+        ("order 0 x", END, count),
+        ("order 0 x 0", "'0'", count),
+        ("order 0 x4", "'x4'", turn_or_repeat),
+        ("order 0 x 4 x 4", "'x'", turn),
+        ("order x 4", "'x'", turn),
+        ("order 99999999999999999999", "'99999999999999999999'", turn),
+        ("order 129", "'129'", turn),
+        ("order Drop 1", "'Drop'", turn),
+        ("order 0 dorp 1", "'dorp'", turn_or_repeat),
+        ("order drop", END, PROCESS),
+        ("order 0 x 2 drop", END, PROCESS),
+        ("order drop 3", "'3'", PROCESS),
+        ("order drop x 2", "'x'", PROCESS),
+        ("order drop drop 1", "'drop'", PROCESS),
+        ("order drop 1 x", END, count),
+    ] {
+        told(line, found, allowed);
     }
 }
 
