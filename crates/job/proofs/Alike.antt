@@ -66,7 +66,7 @@ module _ {s t : List ℕ} (a : Alike s t) where
   unfolding bad-entry scheduled stream-length
   entry-alike k low high =
       let step : scheduled s k ≡ scheduled t k = a .byte (5 + 4 * operations s + k) (omega arith) ∙ ap (λ (n : ℕ). at t (5 + 4 * n + k)) operations-alike in
-      ap₂ (λ (x p : ℕ). not (less (process-of (slot-of x)) p)) step processes-alike
+      simp (step, processes-alike)
 
   pub fine-alike : {l : Limits} → Fine l s → Fine l t
   unfolding bad-kind bad-processes bad-operations bad-schedule-length bad-records bad-schedule
