@@ -134,6 +134,14 @@ module _ (j : Job) where
       by-step (drops d) = by-one d (sym (d .drops) ∙ e)
       by-step (acts a) = absurd (some (sym e ∙ a .drops-none))
 
+  -- nobody makes the step that drops an operation
+  pub by-nobody-at : (k o : ℕ) → o ≢ 0 → drop j k o ≢ 0 → note j (drop j k o) .by ≡ 0
+  by-nobody-at k o some found = go (drop j k o) found (drop-drops j o k found)
+    where
+      go : (d : ℕ) → d ≢ 0 → dropped j d ≡ o → note j d .by ≡ 0
+      go zero n is = absurd (n refl)
+      go (suc d) n is = is-dropped d o some is .nobody
+
   -- an operation is dropped once
   pub dropped-once : (k o : ℕ) → o ≢ 0 → dropped j (suc k) ≡ o → drop j k o ≡ 0
   dropped-once k o some e = go (drop j k o) (drop-le j o k) (drop-drops j o k)
