@@ -4,10 +4,11 @@ use mathlib.Core.Logic.{_≢_}
 use Prim.Native.Nat.{ℕ}
 use mathlib.Core.Bool.{Bool, true, false}
 use mathlib.Core.List.{List, [], _++_, append-assoc, append-nil}
+use native.Mathlib.Omega.{arith}
 use Rattle.basics.specs.Choice.{pick, same}
 use Rattle.basics.specs.Text.{text, decimal}
 use Rattle.basics.proofs.Choice.{pick-then, pick-else, equal-same, unequal-same}
-use Rattle.rows.specs.Operations.{cells}
+use Rattle.rows.specs.Operations.{cells, dropped-mark}
 use Rattle.rows.specs.Operations.Column.{First, Last, Link, Taken}
 use Rattle.stage.specs.Printed.{stage-text}
 use Rattle.job.specs.declared.Operation.{Operation}
@@ -57,11 +58,18 @@ module _ (j : Job) (ops : List ℕ) (o : ℕ) where
   unfolding end-told
   end-of-open z = sym (pick-then _ _ (equal-same z))
 
-  pub end-of-ended : {last : ℕ} → last ≡ cells ops Last o → last ≢ 0 → text " last " ++ decimal last ++ answer-told j (cells ops) o ≡ end-told j (cells ops) o
+  end-of-closed : cells ops Last o ≢ 0 → pick (same (cells ops Last o) dropped-mark) (text " last - dropped") (text " last " ++ decimal (cells ops Last o) ++ answer-told j (cells ops) o) ≡ end-told j (cells ops) o
   unfolding end-told
-  end-of-ended e z =
+  end-of-closed z = sym (pick-else _ _ (unequal-same z))
+
+  pub end-of-dropped : cells ops Last o ≡ dropped-mark → text " last - dropped" ≡ end-told j (cells ops) o
+  end-of-dropped d = sym (pick-then _ _ (equal-same d)) ∙ end-of-closed (λ z. let y : dropped-mark ≡ 0 = sym d ∙ z in omega arith)
+
+  pub end-of-ended : {last : ℕ} → last ≡ cells ops Last o → last ≢ 0 → last ≢ dropped-mark → text " last " ++ decimal last ++ answer-told j (cells ops) o ≡ end-told j (cells ops) o
+  end-of-ended e z d =
       ap (λ (n : ℕ). text " last " ++ decimal n ++ answer-told j (cells ops) o) e
-      ∙ sym (pick-else (text " last - open") _ (unequal-same (λ y. z (e ∙ y))))
+      ∙ sym (pick-else (text " last - dropped") _ (unequal-same (λ y. d (e ∙ y))))
+      ∙ end-of-closed (λ y. z (e ∙ y))
 
   pub not-begun : cells ops First o ≡ 0 → text " first - last - waiting" ≡ progress-told j (cells ops) o
   unfolding progress-told
