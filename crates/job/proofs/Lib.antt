@@ -1,6 +1,7 @@
 -- Laws of conditions and streams.
 pub mod Conditions
 pub mod KindNumbers
+pub mod Slots
 pub mod Tests
 pub mod Blocks
 pub mod Table

@@ -1,14 +1,14 @@
 -- The rows of k steps, with the stores of step k + 1, are the rows of k + 1 steps, column by column. Assumes nothing.
-use mathlib.Core.Path.{_≡_, refl, sym, ap, subst, _∙_}
+use mathlib.Core.Path.{_≡_, refl, sym, ap, ap₂, subst, _∙_}
 use mathlib.Core.Logic.{_≢_, _⊎_, inl, inr}
 use Prim.Native.Nat.{ℕ, suc, max}
 use native.Mathlib.Omega.{arith}
 use mathlib.Core.Bool.{Bool, true, false}
 use Rattle.basics.specs.Choice.{pick, same}
 use Rattle.basics.specs.Maps.{upd}
-use Rattle.basics.proofs.Choice.{split, pick-elim, same-equal, same-unequal}
+use Rattle.basics.proofs.Choice.{split, pick-then, pick-else, pick-elim, same-equal, equal-same, same-unequal, unequal-same}
 use Rattle.basics.proofs.Maps.{upd-elim, upd-id}
-use Rattle.rows.specs.Operations.{Column, Cells, stored}
+use Rattle.rows.specs.Operations.{Column, Cells, stored, dropped-mark}
 use Rattle.rows.specs.Operations.Column.{First, Last, Start, Link, Taken, Stands}
 use Rattle.rows.proofs.Operations.{by-column}
 use Rattle.job.specs.Job.{Job}
@@ -16,31 +16,68 @@ use Rattle.machine.specs.declared.Event.{Event}
 use Rattle.machine.specs.declared.Event.the-variants.{Quiet, Round, Linked, Moved, Late, Raised}
 use Rattle.machine.specs.Notes.{note, is-answer}
 use Rattle.machine.specs.Journal.{item-of, is-round, is-linked, first, last, start, link, taken}
+use Rattle.machine.specs.Drops.{dropped, drop}
 use Rattle.machine.specs.Effects.{takes-at}
 use Rattle.machine.specs.Explained.{IsOperation}
-use Rattle.machine.proofs.Stamps.{first-other, first-new, first-stays, last-other, last-unless, last-new, start-other, start-unless, start-new, link-other, link-unless, link-new, taken-other, taken-unless, taken-new}
+use Rattle.machine.proofs.Stamps.{first-other, first-new, first-stays, last-other, last-unless, last-new, start-other, start-unless, start-new, link-other, link-unless, link-new, taken-other, taken-unless, taken-new, drop-other, drop-new}
 use Rattle.theory.proofs.Course.{PassesIn, ActsIn, passes-by}
 use Rattle.theory.proofs.Deeds.{Going, deeds}
 use Rattle.theory.proofs.Life.{operation-some, acts-new}
 use Rattle.theory.proofs.Operations.{course}
+use Rattle.theory.proofs.Operations.Drops.{dropped-once, actor-drops-none, actor-undropped}
 use Rattle.theory.proofs.TakesAt.{Sounding, before-sound, stands-idle, stands-elsewhere, stands-moved-first, stands-moved-again, stands-late, stands-raised}
 use Rattle.journal.specs.Stored.{earlier, entered, noted, closed}
-use Rattle.journal.specs.Journal.{held, Agrees}
+use Rattle.journal.specs.Journal.{ending, held, Agrees}
 
 module _ (j : Job) where
-  -- an idle step leaves all of it
-  pub idle-keeps : (k : ℕ) (c : Cells) → PassesIn (course j) k → Agrees j k c → Agrees j (suc k) c
-  idle-keeps k c idle a =
-      by-column (λ f. (o : ℕ) → IsOperation (j .count) o → c f o ≡ held j (suc k) f o)
-      (λ o op. a First o op ∙ sym (first-other (note j) k o (stranger op)))
-      (λ o op. a Last o op ∙ sym (last-other (note j) k o (stranger op)))
-      (λ o op. a Start o op ∙ sym (start-other (note j) k o (stranger op)))
-      (λ o op. a Link o op ∙ sym (link-other (note j) k o (stranger op)))
-      (λ o op. a Taken o op ∙ sym (taken-other (note j) k o (stranger op)))
-      (λ o op. a Stands o op ∙ sym (stands-idle (course j) k o idle (operation-some op)))
-    where
-      stranger : {o : ℕ} → IsOperation (j .count) o → note j (suc k) .by ≢ o
-      stranger op e = operation-some op (sym e ∙ passes-by idle)
+  -- the end of an operation that a step does not drop
+  ending-kept : (k o : ℕ) → dropped j (suc k) ≢ o → last (note j) (suc k) o ≡ last (note j) k o → ending j (suc k) o ≡ ending j k o
+  ending-kept k o n l = ap₂ (λ x y. pick (same x 0) y dropped-mark) (drop-other j o k n) l
+
+  -- a step that nobody makes
+  module _ (k : ℕ) (c : Cells) (nobody : PassesIn (course j) k) (a : Agrees j k c) where
+    stranger : {o : ℕ} → IsOperation (j .count) o → note j (suc k) .by ≢ o
+    stranger op e = operation-some op (sym e ∙ passes-by nobody)
+
+    first-passes : (o : ℕ) → IsOperation (j .count) o → c First o ≡ first (note j) (suc k) o
+    first-passes o op = a First o op ∙ sym (first-other (note j) k o (stranger op))
+
+    last-passes : (o : ℕ) → IsOperation (j .count) o → dropped j (suc k) ≢ o → c Last o ≡ ending j (suc k) o
+    last-passes o op n = a Last o op ∙ sym (ending-kept k o n (last-other (note j) k o (stranger op)))
+
+    start-passes : (o : ℕ) → IsOperation (j .count) o → c Start o ≡ start (note j) (suc k) o
+    start-passes o op = a Start o op ∙ sym (start-other (note j) k o (stranger op))
+
+    link-passes : (o : ℕ) → IsOperation (j .count) o → c Link o ≡ link (note j) (suc k) o
+    link-passes o op = a Link o op ∙ sym (link-other (note j) k o (stranger op))
+
+    taken-passes : (o : ℕ) → IsOperation (j .count) o → c Taken o ≡ taken (note j) (suc k) o
+    taken-passes o op = a Taken o op ∙ sym (taken-other (note j) k o (stranger op))
+
+    stands-passes : (o : ℕ) → IsOperation (j .count) o → c Stands o ≡ takes-at (j .object) (note j) (j .count) (suc k) o
+    stands-passes o op = a Stands o op ∙ sym (stands-idle (course j) k o nobody (operation-some op))
+
+    -- leaves all of it if it drops none
+    pub idle-keeps : dropped j (suc k) ≡ 0 → Agrees j (suc k) c
+    idle-keeps none =
+        by-column (λ f. (o : ℕ) → IsOperation (j .count) o → c f o ≡ held j (suc k) f o)
+        first-passes (λ o op. last-passes o op (λ e. operation-some op (sym e ∙ none))) start-passes link-passes taken-passes stands-passes
+
+    -- and all but the end of what it drops
+    dropped-stored : (o : ℕ) → dropped j (suc k) ≡ o → (q : ℕ) → IsOperation (j .count) q → upd (c Last) o dropped-mark q ≡ ending j (suc k) q
+    dropped-stored o d q op =
+        upd-elim (λ x. x ≡ ending j (suc k) q) (c Last) o dropped-mark q
+        (λ here.
+        let its-own : dropped j (suc k) ≡ q = d ∙ sym here in
+        let now : drop j (suc k) q ≡ suc k = drop-new j q k its-own (dropped-once j k q (operation-some op) its-own) in
+        sym (pick-else _ _ (unequal-same (λ z. let x : suc k ≡ 0 = sym now ∙ z in omega arith))))
+        (λ there. last-passes q op (λ e. there (sym e ∙ d)))
+
+    pub drop-keeps : (o : ℕ) → dropped j (suc k) ≡ o → Agrees j (suc k) (stored Last o dropped-mark c)
+    unfolding stored pick same
+    drop-keeps o d =
+        by-column (λ f. (q : ℕ) → IsOperation (j .count) q → stored Last o dropped-mark c f q ≡ held j (suc k) f q)
+        first-passes (dropped-stored o d) start-passes link-passes taken-passes stands-passes
 
   module _ (k o : ℕ) (acts : ActsIn (course j) k o) (c : Cells) (a : Agrees j k c) where
     abbrev heard : Event
@@ -143,14 +180,21 @@ module _ (j : Job) where
         (λ here. first-here ∙ ap (first (note j) (suc k)) (sym here))
         (λ there. a First q op ∙ sym (first-other (note j) k q (other there)))
 
+    -- who makes a step was not dropped, and the step drops none
+    drops-none : {q : ℕ} → IsOperation (j .count) q → dropped j (suc k) ≢ q
+    drops-none op e = operation-some op (sym e ∙ actor-drops-none j k o (operation-some (acts .operation)) (acts .by))
+
+    not-dropped : ending j (suc k) o ≡ last (note j) (suc k) o
+    not-dropped = pick-then _ _ (equal-same (drop-other j o k (drops-none (acts .operation)) ∙ actor-undropped j k o (operation-some (acts .operation)) (acts .by)))
+
     -- its last step is where it answers
-    last-stored : (ends : Bool) → is-answer (note j (suc k) .answer) ≡ ends → (q : ℕ) → IsOperation (j .count) q → upd (c Last) o (pick ends (suc k) (c Last o)) q ≡ last (note j) (suc k) q
+    last-stored : (ends : Bool) → is-answer (note j (suc k) .answer) ≡ ends → (q : ℕ) → IsOperation (j .count) q → upd (c Last) o (pick ends (suc k) (c Last o)) q ≡ ending j (suc k) q
     unfolding pick deeds
     last-stored true e q op =
-        upd-elim (λ x. x ≡ last (note j) (suc k) q) (c Last) o (suc k) q
-        (λ here. sym (last-new (note j) k o (acts .by) e (acts-new (course j) k o acts .not-over)) ∙ ap (last (note j) (suc k)) (sym here))
-        (λ there. a Last q op ∙ sym (last-other (note j) k q (other there)))
-    last-stored false e q op = ap (λ f. f q) (upd-id (c Last) o) ∙ a Last q op ∙ sym (last-unless (note j) k q e)
+        upd-elim (λ x. x ≡ ending j (suc k) q) (c Last) o (suc k) q
+        (λ here. sym (last-new (note j) k o (acts .by) e (acts-new (course j) k o acts .not-over)) ∙ sym not-dropped ∙ ap (ending j (suc k)) (sym here))
+        (λ there. a Last q op ∙ sym (ending-kept k q (drops-none op) (last-other (note j) k q (other there))))
+    last-stored false e q op = ap (λ f. f q) (upd-id (c Last) o) ∙ a Last q op ∙ sym (ending-kept k q (drops-none op) (last-unless (note j) k q e))
 
     -- by the event
     module _ (ends : Bool) (answers : is-answer (note j (suc k) .answer) ≡ ends) where

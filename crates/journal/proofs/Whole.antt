@@ -1,4 +1,4 @@
--- The whole journal over one step: idle steps leave it, and a step's stores make it that of one more step. Assumes nothing.
+-- The whole journal over one step: idle steps leave it, and the stores of a step or of a drop make it that of one more step. Assumes nothing.
 use mathlib.Core.Path.{_≡_, sym, ap, subst, _∙_}
 use Prim.Native.Nat.{ℕ, suc, _≤_, _<_}
 use native.Mathlib.Omega.{arith}
@@ -8,12 +8,14 @@ use Rattle.basics.specs.Maps.{at, upd}
 use Rattle.basics.proofs.Maps.{upd-elim, upd-id}
 use Rattle.job.specs.Job.{Job}
 use Rattle.machine.specs.Notes.{note, is-answer}
+use Rattle.machine.specs.Drops.{dropped}
 use Rattle.theory.proofs.Course.{PassesIn, ActsIn, passes-by}
 use Rattle.theory.proofs.Operations.{course}
-use Rattle.rows.specs.Operations.{cells}
+use Rattle.rows.specs.Operations.{cells, stored, dropped-mark}
+use Rattle.rows.specs.Operations.Column.{Last}
 use Rattle.journal.specs.Journal.{Agrees, Holds}
 use Rattle.journal.specs.Stored.{Stored}
-use Rattle.journal.proofs.Kept.{idle-keeps, acts-keep}
+use Rattle.journal.proofs.Kept.{idle-keeps, drop-keeps, acts-keep}
 
 module _ (j : Job) where
   -- who made each step, with one more
@@ -24,18 +26,26 @@ module _ (j : Job) where
       (λ here. ap (λ i. note j i .by) (sym here))
       (λ there. old s low (omega arith))
 
-  -- an idle step leaves the journal
-  pub holds-idle : (k : ℕ) {ops by : List ℕ} → PassesIn (course j) k → Holds j k ops by → Holds j (suc k) ops by
-  holds-idle k {ops} {by} idle h =
+  -- a step that nobody makes leaves who made each step
+  holds-nobody : (k : ℕ) {ops by ops′ : List ℕ} → PassesIn (course j) k → Holds j k ops by → Agrees j (suc k) (cells ops′) → Holds j (suc k) ops′ by
+  holds-nobody k {by = by} nobody h agrees =
       record {
-        agrees = idle-keeps j k (cells ops) idle (h .agrees);
-        by-at = by-more k by by (h .by-at) nobody;
+        agrees = agrees;
+        by-at = by-more k by by (h .by-at) none-more;
         by-later = λ s later. h .by-later s (omega arith);
       }
     where
-      nobody : at by ≡ upd (at by) (suc k) (note j (suc k) .by)
-      nobody =
-          sym (upd-id (at by) (suc k)) ∙ ap (upd (at by) (suc k)) (h .by-later (suc k) (omega arith) ∙ sym (passes-by idle))
+      none-more : at by ≡ upd (at by) (suc k) (note j (suc k) .by)
+      none-more =
+          sym (upd-id (at by) (suc k)) ∙ ap (upd (at by) (suc k)) (h .by-later (suc k) (omega arith) ∙ sym (passes-by nobody))
+
+  -- an idle step leaves the journal
+  pub holds-idle : (k : ℕ) {ops by : List ℕ} → PassesIn (course j) k → dropped j (suc k) ≡ 0 → Holds j k ops by → Holds j (suc k) ops by
+  holds-idle k {ops} nobody none h = holds-nobody k nobody h (idle-keeps j k (cells ops) nobody (h .agrees) none)
+
+  -- the store of a drop makes it that of one more step
+  pub holds-drops : (k o : ℕ) {ops by ops′ : List ℕ} → PassesIn (course j) k → dropped j (suc k) ≡ o → Holds j k ops by → cells ops′ ≡ stored Last o dropped-mark (cells ops) → Holds j (suc k) ops′ by
+  holds-drops k o {ops} nobody d h e = holds-nobody k nobody h (subst (Agrees j (suc k)) (sym e) (drop-keeps j k (cells ops) nobody (h .agrees) o d))
 
   -- the stores of a step make the journal that of one more step
   pub holds-acts : (k o : ℕ) {ends : Bool} {ops by ops′ by′ : List ℕ} → ActsIn (course j) k o → is-answer (note j (suc k) .answer) ≡ ends → Holds j k ops by → Stored (note j (suc k) .event) ends o (suc k) ops by ops′ by′ → Holds j (suc k) ops′ by′

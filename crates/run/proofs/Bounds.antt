@@ -7,6 +7,7 @@ use lib.ListN.{length}
 use Rattle.basics.specs.Choice.{same}
 use Rattle.job.specs.declared.Heading.{Heading}
 use Rattle.job.specs.Limits.{field}
+use Rattle.job.specs.Slot.{process-of}
 use Rattle.job.specs.Stream.{record-at}
 use Rattle.job.specs.Job.{job-of}
 use Rattle.job.proofs.Ready.{record-there, entry-there}
@@ -42,11 +43,11 @@ module _ {stream : List ℕ} {job : Heading} (r : Runnable stream job) where
   unfolding operation-after
   next-to p o h = omega (arith, its-count, seek-to (λ i. same (job-of stream .owner i) p) (suc o) (job-of stream .count - o))
 
-  -- the entries of its schedule, each one of eight processes
+  -- the entries of its schedule, each of one of eight processes
   pub entry-read : (k : ℕ) → k ≤ job .steps → 5 + 4 * job .count + k < length stream
   unfolding job-of
   entry-read k h = omega (arith, its-count, entry-there (r .ready) k (omega (arith, its-steps)))
 
-  pub entry-in-range : (k : ℕ) → 1 ≤ k → k ≤ job .steps → job-of stream .entry k < field .processes
+  pub entry-in-range : (k : ℕ) → 1 ≤ k → k ≤ job .steps → process-of (job-of stream .slot k) < field .processes
   unfolding job-of
   entry-in-range k low high = r .ready .places k low (omega (arith, its-steps))

@@ -2,5 +2,6 @@
 pub mod Bounds
 pub mod Places
 pub mod Turned
+pub mod Dropped
 pub mod Loop
 pub mod Settled

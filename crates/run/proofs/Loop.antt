@@ -6,15 +6,20 @@ use native.Mathlib.Omega.{arith}
 use mathlib.Core.Bool.{true, false}
 use mathlib.Core.List.{List}
 use lib.ListN.{length, getD, set}
-use Rattle.basics.proofs.Choice.{lt-less, le-less}
+use Rattle.basics.proofs.Choice.{pick-then, equal-same, lt-less, le-less}
 use Rattle.rows.specs.Rows as Rows
 use Rattle.rows.specs.Rows.{column}
 use Rattle.rows.specs.Nodes.{node-width, nexts}
 use Rattle.rows.specs.Operations.{cells}
 use Rattle.rows.proofs.Operations.{by-column}
 use Rattle.job.specs.declared.Heading.{Heading}
+use Rattle.job.specs.declared.Process.{Process}
+use Rattle.job.specs.declared.Slot.{Slot}
+use Rattle.job.specs.declared.Slot.the-variants.{Acts, Drops}
 use Rattle.job.specs.Limits.{field}
+use Rattle.job.specs.Slot.{process-of, is-drop}
 use Rattle.job.specs.Job.{Job, job-of}
+use Rattle.job.proofs.Slots.{slot-acts, slot-drops}
 use Rattle.machine.specs.declared.Place.{Place}
 use Rattle.machine.specs.Memory.{Memory, fresh-memory}
 use Rattle.machine.specs.Table.{ended}
@@ -23,7 +28,7 @@ use Rattle.machine.specs.Notes.{acted, note}
 use Rattle.machine.specs.Journal.{item-of}
 use Rattle.machine.specs.Explained.{IsOperation}
 use Rattle.machine.proofs.Bounds.{MemoryWithin, PlaceWithin, within, reached-within, item-within}
-use Rattle.machine.proofs.Stamps.{first-zero, last-zero, start-zero, link-zero, join-zero, taken-none}
+use Rattle.machine.proofs.Stamps.{drop-zero, first-zero, last-zero, start-zero, link-zero, join-zero, taken-none}
 use Rattle.theory.proofs.Operations.{note-first}
 use Rattle.theory.proofs.TakesAt.{stands-zero}
 use Rattle.access.specs.Nodes.{memory-of}
@@ -31,10 +36,11 @@ use Rattle.step.specs.declared.Stepped.{Stepped}
 use Rattle.step.specs.Promise.{IsStep, event-at}
 use Rattle.journal.specs.Journal.{held}
 use Rattle.journal.specs.Stored.{Stored}
-use Rattle.run.specs.Promise.{Runnable, Room, AllBlank, Ran, InPlace, nowhere, still, working, Makes}
+use Rattle.run.specs.Promise.{Runnable, Room, AllBlank, Ran, InPlace, nowhere, still, working, DropLeaves, Makes}
 use Rattle.run.proofs.Bounds.{its-count, few, short, entry-in-range}
 use Rattle.run.proofs.Places.{still-has, working-has, working-set}
-use Rattle.run.proofs.Turned.{made-from, followed, followed-ended, followed-going, followed-place, ran-rests, ran-acts, places-rest, places-act}
+use Rattle.run.proofs.Turned.{made-from, followed, followed-ended, followed-going, followed-place, ran-idles, rest-idles, ran-acts, places-idle, places-act}
+use Rattle.run.proofs.Dropped.{ran-drops, places-drop}
 
 -- lists keep their lengths
 pub record SameLengths (nodes ops by nodes′ ops′ by′ : List ℕ) : Type 0 where
@@ -62,7 +68,7 @@ ran-at-start j {ops = ops} h t p b =
             agrees =
                 by-column (λ f. (o : ℕ) → IsOperation (j .count) o → cells ops f o ≡ held j 0 f o)
                 (λ o op. b .no-cell _ ∙ sym (first-zero (note j) o))
-                (λ o op. b .no-cell _ ∙ sym (last-zero (note j) o))
+                (λ o op. b .no-cell _ ∙ sym (last-zero (note j) o) ∙ sym (pick-then _ _ (equal-same (drop-zero j o))))
                 (λ o op. b .no-cell _ ∙ sym (start-zero (note j) o))
                 (λ o op. b .no-cell _ ∙ sym (link-zero (note j) o))
                 (λ o op. b .no-cell _ ∙ sym (taken-none (note j) o (note-first j) 0 (join-zero (note j) o)))
@@ -92,16 +98,19 @@ finished {stream} {job} {k} {head = head} {tail = tail} {top = top} {nodes = nod
 place-within : {j : Job} {k p : ℕ} {places : List Place} → InPlace j k places → p < field .processes → PlaceWithin (j .count) (getD places p nowhere)
 place-within {j} {k} {p} l h = subst (PlaceWithin (j .count)) (sym (l .each p h)) (within j k .place p)
 
-module _ {stream : List ℕ} {job : Heading} (r : Runnable stream job) {k : ℕ} {places : List Place} {total head tail top : ℕ} {nodes₀ ops₀ by₀ nodes ops by : List ℕ} (t : Turning stream job k places total head tail top nodes₀ ops₀ by₀ nodes ops by) (more : k < job .steps) (p : ℕ) (scheduled-is : p ≡ job-of stream .entry (k + 1)) where
-  -- the process that is scheduled
+module _ {stream : List ℕ} {job : Heading} (r : Runnable stream job) {k : ℕ} {places : List Place} {total head tail top : ℕ} {nodes₀ ops₀ by₀ nodes ops by : List ℕ} (t : Turning stream job k places total head tail top nodes₀ ops₀ by₀ nodes ops by) (more : k < job .steps) {slot : Slot} (slot-is : slot ≡ job-of stream .slot (k + 1)) (p : ℕ) (process-is : p ≡ process-of slot) where
+  -- the process that the schedule names
   abbrev process : ℕ
-  process = job-of stream .entry (suc k)
+  process = process-of (job-of stream .slot (suc k))
 
   abbrev place : Place
   place = getD places p nowhere
 
+  named : slot ≡ job-of stream .slot (suc k)
+  named = slot-is ∙ ap (job-of stream .slot) (add-one k)
+
   p-is : p ≡ process
-  p-is = scheduled-is ∙ ap (job-of stream .entry) (add-one k)
+  p-is = process-is ∙ ap process-of named
 
   process-in-range : process < field .processes
   process-in-range = entry-in-range r (suc k) (omega arith) more
@@ -125,9 +134,9 @@ module _ {stream : List ℕ} {job : Heading} (r : Runnable stream job) {k : ℕ}
       subst (λ x. Turning stream job x places total head tail top nodes₀ ops₀ by₀ nodes ops by) (sym (add-one k))
       (record {
         small = more;
-        in-place = places-rest (job-of stream) k (rests h) (t .in-place);
+        in-place = places-idle (job-of stream) k (rest-idles (job-of stream) k (rests h)) (t .in-place);
         counted = t .counted;
-        ran = ran-rests (job-of stream) k (rests h) (t .ran);
+        ran = ran-idles (job-of stream) k (rest-idles (job-of stream) k (rests h)) (t .ran);
         lengths = t .lengths;
       })
 
@@ -178,7 +187,7 @@ module _ {stream : List ℕ} {job : Heading} (r : Runnable stream job) {k : ℕ}
   counted-in h =
       omega (arith, t .counted, working-has (job .count) places p (subst (λ n. p < n) (sym (t .in-place .eight)) p-in-range), still-has (job .count) (place .operation .0) h)
 
-  module _ {s : Stepped} {nodes′ : List ℕ} (acts : place .operation .0 ≤ job .count) (is : IsStep place head tail top nodes s nodes′) where
+  module _ (steps : is-drop slot ≡ false) {s : Stepped} {nodes′ : List ℕ} (acts : place .operation .0 ≤ job .count) (is : IsStep place head tail top nodes s nodes′) where
     turning-acts : {ops′ by′ : List ℕ} (after : Place) {total′ : ℕ} → Stored (event-at place head tail top nodes) (ended (s .row)) (place .operation .0) (k + 1) ops by ops′ by′ → after ≡ followed (job-of stream) p (place .operation) s → total′ ≡ total - 1 + still (job .count) (after .operation .0) → SameLengths nodes ops by nodes′ ops′ by′ → Turning stream job (k + 1) (set places p after) total′ (s .head) (s .tail) (s .top) nodes₀ ops₀ by₀ nodes′ ops′ by′
     turning-acts {ops′} {by′} after {total′} stored f counts kept =
         subst (λ x. Turning stream job x (set places p after) total′ (s .head) (s .tail) (s .top) nodes₀ ops₀ by₀ nodes′ ops′ by′) (sym (add-one k))
@@ -186,13 +195,13 @@ module _ {stream : List ℕ} {job : Heading} (r : Runnable stream job) {k : ℕ}
           small = more;
           in-place =
               subst (λ x. InPlace j (suc k) (set places x after)) (sym p-is)
-              (places-act j k places after (awake acts) process-in-range (t .in-place)
-              (followed-place j k after (made-from (t .ran .memory) real)
+              (places-act j k own acts-named places after (awake acts) process-in-range (t .in-place)
+              (followed-place j k own acts-named after (made-from (t .ran .memory) real)
               (subst (λ (x : ℕ × Place). after ≡ followed j (x .0) (x .1 .operation) s) (λ i. (p-is i, its-place i)) f)));
           counted =
               omega (arith, t .counted, counted-in acts, counts, working-set (job .count) places p after (subst (λ n. p < n) (sym (t .in-place .eight)) p-in-range), still-has (job .count) (place .operation .0) acts);
           ran =
-              ran-acts j k (awake acts) (t .ran) real
+              ran-acts j k own acts-named (awake acts) (t .ran) real
               (subst (λ (x : ℕ × Place). Stored (event-at (x .1) head tail top nodes) (ended (s .row)) (x .1 .operation .0) (x .0) ops by ops′ by′) (λ i. (add-one k i, its-place i)) stored);
           lengths =
               record {
@@ -204,6 +213,12 @@ module _ {stream : List ℕ} {job : Heading} (r : Runnable stream job) {k : ℕ}
       where
         j : Job
         j = job-of stream
+
+        own : Process
+        own = record { 0 = process }
+
+        acts-named : job-of stream .slot (suc k) ≡ Acts own
+        acts-named = slot-acts (job-of stream .slot (suc k)) (ap is-drop (sym named) ∙ steps)
 
         real : IsStep (state-after (job-of stream) k .places process) head tail top nodes s nodes′
         real = subst (λ x. IsStep x head tail top nodes s nodes′) its-place is
@@ -219,3 +234,31 @@ module _ {stream : List ℕ} {job : Heading} (r : Runnable stream job) {k : ℕ}
     -- a step at which it ends
     pub turning-ends : {ops′ by′ : List ℕ} (after : Place) {total′ : ℕ} → Stored (event-at place head tail top nodes) (ended (s .row)) (place .operation .0) (k + 1) ops by ops′ by′ → ended (s .row) ≡ true → after ≡ before (job-of stream) (operation-after (job-of stream) p (place .operation .0)) → total′ ≡ total - 1 + still (job .count) (after .operation .0) → SameLengths nodes ops by nodes′ ops′ by′ → Turning stream job (k + 1) (set places p after) total′ (s .head) (s .tail) (s .top) nodes₀ ops₀ by₀ nodes′ ops′ by′
     turning-ends after stored over f = turning-acts after stored (followed-ended (job-of stream) p (place .operation) s over f)
+
+  -- a drop
+  pub turning-drops : is-drop slot ≡ true → place .operation .0 ≤ job .count → {ops′ : List ℕ} (after : Place) {total′ : ℕ} → DropLeaves (job-of stream) p place ops after ops′ → total′ ≡ total - 1 + still (job .count) (after .operation .0) → length ops′ ≡ length ops → Turning stream job (k + 1) (set places p after) total′ head tail top nodes₀ ops₀ by₀ nodes ops′ by
+  turning-drops drops has {ops′} after {total′} left counts kept =
+      subst (λ x. Turning stream job x (set places p after) total′ head tail top nodes₀ ops₀ by₀ nodes ops′ by) (sym (add-one k))
+      (record {
+        small = more;
+        in-place = subst (λ x. InPlace j (suc k) (set places x after)) (sym p-is) (places-drop j k own drops-named held-in (t .ran) real places process-in-range (t .in-place));
+        counted =
+            omega (arith, t .counted, counted-in has, counts, working-set (job .count) places p after (subst (λ n. p < n) (sym (t .in-place .eight)) p-in-range), still-has (job .count) (place .operation .0) has);
+        ran = ran-drops j k own drops-named held-in (t .ran) real;
+        lengths = record { of-nodes = t .lengths .of-nodes; of-ops = kept ∙ t .lengths .of-ops; of-by = t .lengths .of-by };
+      })
+    where
+      j : Job
+      j = job-of stream
+
+      own : Process
+      own = record { 0 = process }
+
+      drops-named : job-of stream .slot (suc k) ≡ Drops own
+      drops-named = slot-drops (job-of stream .slot (suc k)) (ap is-drop (sym named) ∙ drops)
+
+      held-in : state-after (job-of stream) k .places process .operation .0 ≤ job-of stream .count
+      held-in = subst (λ (x : ℕ × Place). x .1 .operation .0 ≤ x .0) (λ i. (its-count r i, its-place i)) has
+
+      real : DropLeaves (job-of stream) process (state-after (job-of stream) k .places process) ops after ops′
+      real = subst (λ (x : ℕ × Place). DropLeaves (job-of stream) (x .0) (x .1) ops after ops′) (λ i. (p-is i, its-place i)) left

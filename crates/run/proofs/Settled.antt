@@ -5,6 +5,7 @@ use Prim.Native.Nat.{ℕ, zero, suc, _+_, _-_, _≤_, _<_}
 use native.Mathlib.Omega.{arith}
 use mathlib.Core.List.{List}
 use Rattle.job.specs.declared.Heading.{Heading}
+use Rattle.job.specs.Slot.{process-of}
 use Rattle.job.specs.Job.{Job, job-of}
 use Rattle.machine.specs.declared.Place.{Place}
 use Rattle.machine.specs.Idle.{IdleBehind}
@@ -23,7 +24,7 @@ module _ {stream : List ℕ} {job : Heading} (r : Runnable stream job) {k : ℕ}
   settled =
       let small : k ≤ job .steps = t .small in
       kept (λ x. Turning stream job x places total head tail top nodes₀ ops₀ by₀ nodes ops by) (job .steps)
-      (λ x more u. turning-rests r u more (job-of stream .entry (x + 1)) refl (rest _ (p-in-range r u more (job-of stream .entry (x + 1)) refl)))
+      (λ x more u. turning-rests r u more refl (process-of (job-of stream .slot (x + 1))) refl (rest _ (p-in-range r u more refl (process-of (job-of stream .slot (x + 1))) refl)))
       k (job .steps - k) (omega arith) t
 
   -- so what the code has now is what it has at the end

@@ -1,5 +1,5 @@
 -- One turn of the run's loop: what the code holds after k steps, with the step that it makes, is what it holds after k + 1. Assumes nothing.
-use mathlib.Core.Path.{_≡_, sym, ap, subst, _∙_}
+use mathlib.Core.Path.{_≡_, refl, sym, ap, subst, _∙_}
 use mathlib.Core.Logic.{_≢_, _⊎_, inl, inr}
 use Prim.Native.Nat.{ℕ, suc, _≤_, _<_}
 use native.Mathlib.Omega.{arith}
@@ -9,25 +9,31 @@ use lib.ListN.{getD, set, length-set}
 use lib.Seq.{getD-set-same, getD-set-other}
 use Rattle.basics.specs.Choice.{pick}
 use Rattle.basics.specs.Maps.{upd}
-use Rattle.basics.proofs.Choice.{split, pick-then, pick-else}
+use Rattle.basics.proofs.Choice.{both, split, less-lt, pick-then, pick-else}
 use Rattle.basics.proofs.Maps.{upd-here, upd-there}
 use Rattle.job.specs.Limits.{field}
-use Rattle.job.specs.Job.{Job}
 use Rattle.job.specs.declared.Operation as Machine
+use Rattle.job.specs.declared.Process.{Process}
+use Rattle.job.specs.declared.Slot.{Slot}
+use Rattle.job.specs.declared.Slot.the-variants.{Acts, Drops}
+use Rattle.job.specs.Slot.{process-of}
+use Rattle.job.specs.Job.{Job}
 use Rattle.machine.specs.declared.Place.{Place}
 use Rattle.machine.specs.Memory.{Memory}
 use Rattle.machine.specs.Access.{Reached}
 use Rattle.machine.specs.Table.{ended}
-use Rattle.machine.specs.Run.{State, before, operation-after, reached, row-after, place-after, resting, step, state-after}
-use Rattle.machine.specs.Notes.{Note, idle, acted, note, is-answer}
+use Rattle.machine.specs.Run.{State, before, operation-after, reached, row-after, place-after, resting, state-after}
+use Rattle.machine.specs.Notes.{Note, acted, note, is-answer}
 use Rattle.machine.proofs.Bounds.{within}
+use Rattle.machine.proofs.Slots.{answers-at-end, its-place, its-reach, acts-drops-none, state-rests, note-rests, state-acts, note-acts, note-drops, state-stays, drops-none}
 use Rattle.theory.proofs.Course.{PassesIn, ActsIn, passes-by}
-use Rattle.theory.proofs.Operations.{course}
+use Rattle.theory.proofs.Operations.{course, passes}
+use Rattle.theory.proofs.Operations.Locals.{memory}
+use Rattle.theory.proofs.Operations.Hands.{Idling}
 use Rattle.access.specs.Nodes.{memory-of}
 use Rattle.step.specs.declared.Stepped.{Stepped}
 use Rattle.step.specs.Promise.{IsStep, event-at}
 use Rattle.journal.specs.Stored.{Stored}
-use Rattle.machine.proofs.Slots.{answers-at-end}
 use Rattle.journal.proofs.Whole.{holds-idle, holds-acts}
 use Rattle.run.specs.Promise.{nowhere, InPlace, Ran}
 
@@ -56,78 +62,86 @@ module _ (j : Job) (p : ℕ) (o : Machine.Operation) (s : Stepped) {after : Plac
   unfolding followed
   followed-going e f = f ∙ sym (pick-else _ _ e)
 
-module _ (j : Job) (k : ℕ) where
-  -- the process that is scheduled, its place, and what its step reaches
-  abbrev process : ℕ
-  process = j .entry (suc k)
+-- who rests has no operation in hand
+rested-past : (j : Job) (place : Place) → resting j place ≡ true → place .operation .0 ≤ j .count → ⊥
+unfolding resting
+rested-past j place e h = omega (arith, less-lt e)
 
+module _ (j : Job) (k : ℕ) where
+  -- a step at which nothing happens leaves everything
+  pub ran-idles : {head tail top : ℕ} {nodes ops by : List ℕ} → Idling j k → Ran j k head tail top nodes ops by → Ran j (suc k) head tail top nodes ops by
+  unfolding memory
+  ran-idles i r =
+      record {
+        memory = r .memory ∙ ap (λ (s : State). s .memory) (sym (i .state));
+        journal = holds-idle j k (passes j k (ap (λ (s : State). s .memory) (i .state)) (i .said)) (i .drops-none) (r .journal);
+      }
+
+  pub places-idle : {places : List Place} → Idling j k → InPlace j k places → InPlace j (suc k) places
+  places-idle i l = record { eight = l .eight; each = λ p h. l .each p h ∙ ap (λ (s : State). s .places p) (sym (i .state)) }
+
+  -- nothing happens where the process that is named has no operation remaining, whether it is to step or to drop
+  pub rest-idles : resting j (state-after j k .places (process-of (j .slot (suc k)))) ≡ true → Idling j k
+  rest-idles = by-slot (j .slot (suc k)) refl
+    where
+      -- what has begun is an operation
+      none-begun : (p : Process) → resting j (its-place j k p) ≡ true → state-after j k .begun (its-place j k p .operation .0) ≡ false
+      none-begun p e = go (both (state-after j k .begun (its-place j k p .operation .0)))
+        where
+          go : (state-after j k .begun (its-place j k p .operation .0) ≡ true) ⊎ (state-after j k .begun (its-place j k p .operation .0) ≡ false) → state-after j k .begun (its-place j k p .operation .0) ≡ false
+          go (inl b) = absurd (rested-past j (its-place j k p) e (within j k .begun _ b))
+          go (inr n) = n
+
+      by-slot : (s : Slot) → j .slot (suc k) ≡ s → resting j (state-after j k .places (process-of s)) ≡ true → Idling j k
+      by-slot (Acts p) named e = record { state = state-rests j k p named e; said = note-rests j k p named e; drops-none = acts-drops-none j k p named }
+      by-slot (Drops p) named e =
+          record { state = state-stays j k p named (none-begun p e); said = note-drops j k p named; drops-none = drops-none j k p named (none-begun p e) }
+
+-- a place that is stored where the definition has it
+pub places-set : (j : Job) (k : ℕ) (places : List Place) (p : ℕ) (q : Place) → p < field .processes → InPlace j k places → state-after j (suc k) .places ≡ upd (state-after j k .places) p q → InPlace j (suc k) (set places p q)
+places-set j k places p q in-range l e =
+    record { eight = length-set places p q ∙ l .eight; each = λ r h. go r h (split r p) }
+  where
+    now : (r : ℕ) → state-after j (suc k) .places r ≡ upd (state-after j k .places) p q r
+    now r = ap (λ (f : ℕ → Place). f r) e
+
+    go : (r : ℕ) → r < field .processes → (r ≡ p) ⊎ (r ≢ p) → getD (set places p q) r nowhere ≡ state-after j (suc k) .places r
+    go r h (inl here) =
+        subst (λ x. getD (set places p q) x nowhere ≡ state-after j (suc k) .places x) (sym here)
+        (getD-set-same places p q nowhere (subst (λ n. p < n) (sym (l .eight)) in-range)
+        ∙ sym (now p ∙ upd-here _ p _))
+    go r h (inr there) =
+        getD-set-other places p r q nowhere there ∙ l .each r h ∙ sym (now r ∙ upd-there _ p _ there)
+
+-- process p steps
+module _ (j : Job) (k : ℕ) (p : Process) (named : j .slot (suc k) ≡ Acts p) where
   abbrev place : Place
-  place = state-after j k .places process
+  place = its-place j k p
 
   abbrev a : Reached
-  a = reached (state-after j k .memory) place
-
-  -- a process that rests: the state stays, and the step is idle
-  state-rests : resting j place ≡ true → state-after j (suc k) ≡ state-after j k
-  unfolding state-after step
-  state-rests e = pick-then _ _ e
-
-  note-rests : resting j place ≡ true → note j (suc k) ≡ idle
-  unfolding note
-  note-rests e = pick-then _ _ e
-
-  -- a process that acts
-  state-acts : resting j place ≡ false → state-after j (suc k) ≡ record { memory = a .memory; places = upd (state-after j k .places) process (place-after j process place a) }
-  unfolding state-after step
-  state-acts e = pick-else _ _ e
-
-  note-acts : resting j place ≡ false → note j (suc k) ≡ acted place a
-  unfolding note
-  note-acts e = pick-else _ _ e
-
-  idles : resting j place ≡ true → PassesIn (course j) k
-  unfolding idle
-  idles e = go (course j .step k)
-    where
-      go : PassesIn (course j) k ⊎ ((o : ℕ) × ActsIn (course j) k o) → PassesIn (course j) k
-      go (inl i) = i
-      go (inr (o, acts)) =
-          let z : o ≡ 0 = sym (acts .by) ∙ ap (λ (n : Note). n .by) (note-rests e) in
-          let h : 1 ≤ o = acts .operation .from-one in
-          absurd (let b : ⊥ = omega arith in b)
+  a = its-reach j k p
 
   acts-of : resting j place ≡ false → ActsIn (course j) k (place .operation .0)
   unfolding acted
   acts-of e = go (course j .step k)
     where
       own : note j (suc k) .by ≡ place .operation .0
-      own = ap (λ (n : Note). n .by) (note-acts e)
+      own = ap (λ (n : Note). n .by) (note-acts j k p named e)
 
       go : PassesIn (course j) k ⊎ ((o : ℕ) × ActsIn (course j) k o) → ActsIn (course j) k (place .operation .0)
       go (inl i) =
           let z : place .operation .0 ≡ 0 = sym own ∙ passes-by i in
-          let h : 1 ≤ place .operation .0 = within j k .place process .from-one in
+          let h : 1 ≤ place .operation .0 = within j k .place (p .0) .from-one in
           absurd (let b : ⊥ = omega arith in b)
       go (inr (o, acts)) = subst (ActsIn (course j) k) (sym (acts .by) ∙ own) acts
 
-  -- a resting process leaves everything
-  pub ran-rests : {head tail top : ℕ} {nodes ops by : List ℕ} → resting j place ≡ true → Ran j k head tail top nodes ops by → Ran j (suc k) head tail top nodes ops by
-  ran-rests e r =
-      record {
-        memory = r .memory ∙ ap (λ (s : State). s .memory) (sym (state-rests e));
-        journal = holds-idle j k (idles e) (r .journal);
-      }
-
-  pub places-rest : {places : List Place} → resting j place ≡ true → InPlace j k places → InPlace j (suc k) places
-  places-rest {places} e l = record { eight = l .eight; each = λ p h. l .each p h ∙ ap (λ (s : State). s .places p) (sym (state-rests e)) }
-
   -- the place that follows is the definition's
-  pub followed-place : {m′ : Memory} {s : Stepped} (q : Place) → Made place (state-after j k .memory) m′ s → q ≡ followed j process (place .operation) s → q ≡ place-after j process place a
+  pub followed-place : {m′ : Memory} {s : Stepped} (q : Place) → Made place (state-after j k .memory) m′ s → q ≡ followed j (p .0) (place .operation) s → q ≡ place-after j (p .0) place a
   unfolding place-after followed
   followed-place q made f =
       f
       ∙ (λ i.
-      pick (ended (made .row i)) (before j (operation-after j process (place .operation .0)))
+      pick (ended (made .row i)) (before j (operation-after j (p .0) (place .operation .0)))
       (record {
         operation = place .operation;
         row = made .row i;
@@ -136,21 +150,9 @@ module _ (j : Job) (k : ℕ) where
         n = made .registers i .n;
       }))
 
-  pub places-act : (places : List Place) (q : Place) → resting j place ≡ false → process < field .processes → InPlace j k places → q ≡ place-after j process place a → InPlace j (suc k) (set places process q)
+  pub places-act : (places : List Place) (q : Place) → resting j place ≡ false → p .0 < field .processes → InPlace j k places → q ≡ place-after j (p .0) place a → InPlace j (suc k) (set places (p .0) q)
   places-act places q e in-range l f =
-      record { eight = length-set places process q ∙ l .eight; each = λ p h. go p h (split p process) }
-    where
-      now : (p : ℕ) → state-after j (suc k) .places p ≡ upd (state-after j k .places) process (place-after j process place a) p
-      now p = ap (λ (s : State). s .places p) (state-acts e)
-
-      go : (p : ℕ) → p < field .processes → (p ≡ process) ⊎ (p ≢ process) → getD (set places process q) p nowhere ≡ state-after j (suc k) .places p
-      go p h (inl here) =
-          subst (λ x. getD (set places process q) x nowhere ≡ state-after j (suc k) .places x) (sym here)
-          (getD-set-same places process q nowhere (subst (λ n. process < n) (sym (l .eight)) in-range)
-          ∙ f
-          ∙ sym (now process ∙ upd-here _ process _))
-      go p h (inr there) =
-          getD-set-other places process p q nowhere there ∙ l .each p h ∙ sym (now p ∙ upd-there _ process _ there)
+      places-set j k places (p .0) q in-range l (ap (λ (s : State). s .places) (state-acts j k p named e) ∙ ap (upd (state-after j k .places) (p .0)) (sym f))
 
   -- an acting process: memory and journal of one more step
   pub ran-acts : {head tail top : ℕ} {nodes ops by nodes′ ops′ by′ : List ℕ} {s : Stepped} → resting j place ≡ false → Ran j k head tail top nodes ops by → IsStep place head tail top nodes s nodes′ → Stored (event-at place head tail top nodes) (ended (s .row)) (place .operation .0) (suc k) ops by ops′ by′ → Ran j (suc k) (s .head) (s .tail) (s .top) nodes′ ops′ by′
@@ -158,15 +160,15 @@ module _ (j : Job) (k : ℕ) where
   ran-acts {head} {tail} {top} {nodes} {ops} {by} {ops′ = ops′} {by′ = by′} {s = s} e r is stored =
       let made = made-from (r .memory) is in
       let event : event-at place head tail top nodes ≡ note j (suc k) .event =
-      ap (λ (m : Memory). acted place (reached m place) .event) (r .memory) ∙ ap (λ (n : Note). n .event) (sym (note-acts e))
+      ap (λ (m : Memory). acted place (reached m place) .event) (r .memory) ∙ ap (λ (n : Note). n .event) (sym (note-acts j k p named e))
       in
       let answered : is-answer (note j (suc k) .answer) ≡ ended (s .row) =
-      ap (λ (n : Note). is-answer (n .answer)) (note-acts e)
+      ap (λ (n : Note). is-answer (n .answer)) (note-acts j k p named e)
       ∙ answers-at-end (row-after place a) (a .registers)
       ∙ ap ended (sym (made .row))
       in
       record {
-        memory = made .memory ∙ ap (λ (x : State). x .memory) (sym (state-acts e));
+        memory = made .memory ∙ ap (λ (x : State). x .memory) (sym (state-acts j k p named e));
         journal =
             holds-acts j k (place .operation .0) (acts-of e) answered (r .journal)
             (subst (λ v. Stored v (ended (s .row)) (place .operation .0) (suc k) ops by ops′ by′) event stored);

@@ -6,9 +6,13 @@ use job::Limits;
 use job::Operation;
 use job::Process;
 use job::Step;
+use job::is_drop;
+use job::process_of;
 use job::scheduled;
 use journal::enter;
+use journal::enter_drop;
 use journal::enter_end;
+use journal::has_begun;
 use machine::Finish;
 use machine::Place;
 use place::advanced;
@@ -26,7 +30,8 @@ ghost use Rattle.machine.specs.Run.{before, «operation-after»};
 ghost use Rattle.machine.specs.Idle.{IdleBehind};
 ghost use Rattle.step.specs.Promise.{IsStep, «event-at»};
 ghost use Rattle.journal.specs.Stored.{Stored};
-ghost use Rattle.run.specs.Promise.{Runnable, InPlace, still, working, Makes, Room, AllBlank, Ran};
+ghost use Rattle.rows.specs.Operations.{HasOps};
+ghost use Rattle.run.specs.Promise.{Runnable, InPlace, still, working, DropLeaves, Makes, Room, AllBlank, Ran};
 
 // The run state: "The eight places, one a process, go from step to step together".
 pub struct Run {
@@ -144,6 +149,20 @@ fn make(
     s
 }
 
+// The place of process p behind its drop. Document 02: "process p drops its begun operation, then stands before its next; with none begun it
+// is idle".
+fn drop_at(stream: &[u8], job: Heading, p: Process, place: Place, ops: &mut [u16]) -> Place
+    requires { ⌜ Runnable (now stream) job × (place .operation .0 ≤ job .count) × HasOps (place .operation .0) (now ops) ⌝ }
+    ensures { λ r. ⌜ DropLeaves (job-of (now (stream .entry))) (p .0) place (now (ops .entry)) r (now (ops .exit)) ⌝ }
+{
+    let o = place.operation;
+    if has_begun(o, ops) {
+        enter_drop(o, ops);
+        return place_after(stream, job, p, o);
+    }
+    place
+}
+
 // Runs the whole schedule. The lent memory is blank; it is left with the nodes' rows and with the journal. The run is over when no process
 // has operations left, since no step behind that changes anything.
 pub fn run_all(
@@ -169,11 +188,26 @@ pub fn run_all(
     let mut k: u16 = 0;
     while k < steps {
         k += 1;
-        let p = scheduled(stream, count, Step(k));
+        let slot = scheduled(stream, count, Step(k));
+        let p = process_of(slot);
         let i = p.0 as usize;
         let place = run.places[i];
         let o = place.operation;
         if count < o.0 {
+            continue;
+        }
+        if is_drop(slot) {
+            let after = drop_at(stream, job, p, place, ops);
+            run.places[i] = after;
+            total = working_on(total, count, after.operation);
+            if total == 0 {
+                return Finish {
+                    head,
+                    tail,
+                    top,
+                    reach: Step(k),
+                };
+            }
             continue;
         }
         let s = make(place, Step(k), head, tail, top, nodes, ops, by);

@@ -32,7 +32,7 @@ record StepMade (j : Job) (k o : ℕ) : Type 0 where
   answer : note j (suc k) .answer ≡ answer-of (local j (suc k) o .row) (local j (suc k) o .registers)
 
 -- a step that nobody makes leaves every operation where it is
-passes : (j : Job) (k : ℕ) → memory j (suc k) ≡ memory j k → note j (suc k) ≡ idle → Passes (note j) (memory j) (local j) k
+pub passes : (j : Job) (k : ℕ) → memory j (suc k) ≡ memory j k → note j (suc k) ≡ idle → Passes (note j) (memory j) (local j) k
 unfolding idle
 passes j k kept nothing =
     record {

@@ -163,6 +163,10 @@ module _ (j : Job) where
           at-or-before (inl e) = absurd (some (sym is ∙ ap (λ x. dropped j (suc x)) e ∙ made-it .drops-none))
           at-or-before (inr e) = absurd (let x : ⊥ = omega (arith, is-dropped d o some is .past, made-it .in-hand, hand-grows (j .owner o) (suc d) s (omega arith)) in x)
 
+  -- who makes a step is not dropped before it, nor at it
+  pub actor-drops-none : (k o : ℕ) → o ≢ 0 → note j (suc k) .by ≡ o → dropped j (suc k) ≡ 0
+  actor-drops-none k o some by = makes k o some by .drops-none
+
   pub actor-undropped : (k o : ℕ) → o ≢ 0 → note j (suc k) .by ≡ o → drop j k o ≡ 0
   actor-undropped k o some by = go (split (drop j k o) 0)
     where
