@@ -26,7 +26,7 @@
  *    8  The schedule is longer than 16,384 steps.
  *    9  The file does not have exactly the blocks that its header asks for. Of a write: the stream does not have exactly that length.
  *   10  An operation's process is none of the job's, its action is neither 1, a put, nor 2, a take, or it is a take with a value.
- *   11  A schedule entry is no process of the job.
+ *   11  A schedule entry is neither a process of the job nor 128 + one, which is a drop.
  *   12  A byte behind the stream is not zero.
  */
 #ifndef BENCH_H

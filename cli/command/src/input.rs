@@ -2,7 +2,7 @@
 
 use crate::names::shown;
 use crate::status::{Failure, say};
-use pigwazet::Refusal;
+use pigwazet::{Job, Refusal, Report};
 use std::fs::File;
 use std::io::{self, Read};
 use std::path::Path;
@@ -70,6 +70,11 @@ pub fn looks_like_text(bytes: &[u8]) -> bool {
 pub fn accepted<T>(path: &Path, call: impl FnOnce(&[u8]) -> Result<T, Refusal>) -> Result<Option<T>, Failure> {
     let answer = call(&job(path)?);
     Ok(answer.map_err(|refusal| refused(path, refusal)).ok())
+}
+
+/// The job in a file, and its report.
+pub fn replayed(file: &[u8]) -> Result<(Job, Report), Refusal> {
+    Ok((pigwazet::read(file)?, pigwazet::replay(file)?))
 }
 
 /// Says that a job file is refused, where a command needed an accepted one.

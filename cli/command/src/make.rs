@@ -5,7 +5,7 @@ use crate::status::{Failure, Status, say};
 use crate::text::parse::{self, Fault};
 use crate::words::counted;
 use crate::{input, output};
-use pigwazet::Job;
+use pigwazet::{Job, Turn};
 use std::path::Path;
 
 /// How many wrong lines are told.
@@ -34,7 +34,11 @@ fn made(out: &Path, job: &Job, written: Result<(), Failure>) -> Result<(), Failu
     let processes = counted(usize::from(job.processes), "process", "processes");
     let operations = counted(job.operations.len(), "operation", "operations");
     let steps = counted(job.schedule.len(), "step", "steps");
-    say(&format!("{}: {}, {processes}, {operations}, {steps}", shown(out), job.kind.noun()));
+    let drops = match job.schedule.iter().filter(|&&entry| matches!(Turn::of(entry), Turn::Drops(_))).count() {
+        0 => String::new(),
+        some => format!(" with {}", counted(some, "drop", "drops")),
+    };
+    say(&format!("{}: {}, {processes}, {operations}, {steps}{drops}", shown(out), job.kind.noun()));
     Ok(())
 }
 

@@ -1,10 +1,11 @@
-//! `bench picture`: the run as one page, made from the report alone.
+//! `bench picture`: the run as one page, made from the report; when an operation was dropped, the job tells.
 
 pub mod model;
 
 use crate::names::{shown, with_ending};
 use crate::status::{Failure, Status, say};
 use crate::{input, output};
+use pigwazet::Job;
 use pigwazet::report::Run;
 use std::path::Path;
 
@@ -22,9 +23,9 @@ const SCRIPT: [&str; 8] = [
 ];
 
 pub fn run(path: &Path, out: Option<&Path>) -> Result<Status, Failure> {
-    let Some(report) = input::accepted(path, pigwazet::replay)? else { return Ok(Status::Refused) };
+    let Some((job, report)) = input::accepted(path, input::replayed)? else { return Ok(Status::Refused) };
     let name = path.file_name().map_or("-".into(), |name| name.to_string_lossy());
-    let page = page(&name, &report.run());
+    let page = page(&name, &job, &report.run());
     match out {
         Some(out) if input::is_standard(out) => output::print(page)?,
         None if input::is_standard(path) => output::print(page)?,
@@ -50,22 +51,22 @@ fn is_picture(bytes: &[u8]) -> bool {
 }
 
 /// The whole page of a run: the template with its holes filled. What is filled in is not looked through again.
-pub fn page(name: &str, run: &Run) -> String {
+pub fn page(name: &str, job: &Job, run: &Run) -> String {
     let mut page = String::new();
     for part in PAGE.split("{{") {
         let (hole, rest) = part.split_once("}}").unwrap_or(("", part));
-        page += &filling(hole, name, run);
+        page += &filling(hole, name, job, run);
         page += rest;
     }
     page
 }
 
-fn filling(hole: &str, name: &str, run: &Run) -> String {
+fn filling(hole: &str, name: &str, job: &Job, run: &Run) -> String {
     match hole {
         "title" => escaped(name),
         "style" => STYLE.to_string(),
         "script" => SCRIPT.concat(),
-        "run" => model::json(name, run),
+        "run" => model::json(name, job, run),
         _ => String::new(),
     }
 }

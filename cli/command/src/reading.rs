@@ -1,18 +1,18 @@
-//! `bench reading`: the fate of one reading, or all doubles, from the report alone.
+//! `bench reading`: the fate of one reading, or all doubles, from the report; when an operation was dropped, the job tells.
 
 use crate::status::{Failure, Status};
 use crate::words::{counted, list};
 use crate::{input, output};
-use pigwazet::Kind;
 use pigwazet::report::{Action, Ending, Operation, Run};
+use pigwazet::{Job, Kind};
 use std::path::Path;
 
 pub fn run(path: &Path, number: Option<u16>) -> Result<Status, Failure> {
-    let Some(report) = input::accepted(path, pigwazet::replay)? else { return Ok(Status::Refused) };
+    let Some((job, report)) = input::accepted(path, input::replayed)? else { return Ok(Status::Refused) };
     let run = report.run();
     let lines = match number {
-        Some(number) => fate(&run, number).ok_or_else(|| Failure(no_reading(&run, number)))?,
-        None => doubles(&run),
+        Some(number) => fate(&job, &run, number).ok_or_else(|| Failure(no_reading(&run, number)))?,
+        None => doubles(&job, &run),
     };
     output::print(lines.join("\n") + "\n").map(|()| Status::Fine)
 }
@@ -45,80 +45,102 @@ pub fn end(kind: Kind) -> &'static str {
 }
 
 /// The fate of a reading, in sentences; none if it is no put of the run.
-pub fn fate(run: &Run, item: u16) -> Option<Vec<String>> {
+pub fn fate(job: &Job, run: &Run, item: u16) -> Option<Vec<String>> {
     let put = run.operation(item)?;
     let Action::Put(value) = put.action else { return None };
     let object = run.kind.noun();
     let by = if put.first.is_some() { "put by" } else { "to be put by" };
-    let mut lines = vec![format!("Reading {item}: {value} cm, {by} {}.", operation_told(put))];
-    match run.put(item) {
-        Some(line) => lines.push(format!("The record has it coming into the {object} at step {}.", line.at)),
-        None => lines.push(format!("It is not in the record: it never came into the {object}.")),
-    }
+    let mut lines = vec![format!("Reading {item}: {value} cm, {by} {}.", operation_told(job, put)), coming(run, put)];
     if let Some(place) = run.left.iter().position(|&left| left == item) {
         let (place, all, end) = (place + 1, run.left.len(), end(run.kind));
         lines.push(format!("Nobody took it. It is still in the {object}: place {place} of {all} from the {end}."));
     }
     if let Some(line) = run.taken(item) {
         let takers = takers(run, item);
-        lines.push(format!("The record has it going out at step {}, to {}.", line.at, all_told(&takers)));
-        lines.push(how_often(&takers));
+        lines.push(format!("The record has it going out at step {}, to {}.", line.at, all_told(job, &takers)));
+        lines.push(how_often(job, &takers));
     }
     Some(lines)
+}
+
+/// When a reading came in, or that it did not; with a drop, which is later than the one and the reason of the other.
+fn coming(run: &Run, put: &Operation) -> String {
+    let object = run.kind.noun();
+    let dropped = put.ending == Ending::Dropped;
+    match run.put(put.number) {
+        Some(line) => {
+            let before = if dropped { ", before its put was dropped" } else { "" };
+            format!("The record has it coming into the {object} at step {}{before}.", line.at)
+        }
+        None if dropped => format!("It is not in the record: its put was dropped before it came into the {object}."),
+        None => format!("It is not in the record: it never came into the {object}."),
+    }
 }
 
 fn takers<'a>(run: &'a Run, item: u16) -> Vec<&'a Operation<'a>> {
     run.takers(item).iter().filter_map(|&taker| run.operation(taker)).collect()
 }
 
-fn all_told(operations: &[&Operation]) -> String {
-    list(&operations.iter().map(|operation| operation_told(operation)).collect::<Vec<_>>())
+fn all_told(job: &Job, operations: &[&Operation]) -> String {
+    list(&operations.iter().map(|operation| operation_told(job, operation)).collect::<Vec<_>>())
 }
 
 /// An operation, its process and its interval.
-fn operation_told(operation: &Operation) -> String {
+fn operation_told(job: &Job, operation: &Operation) -> String {
     let who = format!("operation {} of process {}", operation.number, operation.process);
-    match (operation.first, operation.last) {
-        (Some(first), Some(last)) if first == last => format!("{who} (step {first})"),
-        (Some(first), Some(last)) => format!("{who} (steps {first} to {last})"),
-        (Some(first), None) => format!("{who} (open since step {first})"),
+    match (operation.first, operation.last, operation.dropped_at(job)) {
+        (Some(first), Some(last), _) if first == last => format!("{who} (step {first})"),
+        (Some(first), Some(last), _) => format!("{who} (steps {first} to {last})"),
+        (Some(first), None, Some(drop)) => format!("{who} (begun at step {first}, dropped at step {drop})"),
+        (Some(first), None, None) => format!("{who} (open since step {first})"),
         _ => format!("{who} (not begun)"),
     }
 }
 
 /// Once, or more than once and by which overlap; and whether somebody has it at all.
-fn how_often(takers: &[&Operation]) -> String {
-    let open = takers.iter().filter(|taker| taker.ending == Ending::Open).count();
-    match (takers.len(), open) {
-        (1, 0) => "It was taken once: no double.".to_string(),
-        (1, _) => "That one has claimed it and is open, so nobody has it yet.".to_string(),
-        (many, open) => {
-            let had = match open {
-                0 => "",
-                _ if open == many => " All of them are open, so nobody has it yet.",
-                _ => " Those that are open have claimed it and do not have it yet.",
-            };
-            format!("A double: the {many} takers overlap {}.{had}", overlap(takers))
+fn how_often(job: &Job, takers: &[&Operation]) -> String {
+    let of = |ending: Ending| takers.iter().filter(|taker| taker.ending == ending).count();
+    match (takers.len(), of(Ending::Open), of(Ending::Dropped)) {
+        (1, 0, 0) => "It was taken once: no double.".to_string(),
+        (1, _, 0) => "That one has claimed it and is open, so nobody has it yet.".to_string(),
+        (1, ..) => "That one had claimed it and was dropped, so nobody got it.".to_string(),
+        (many, open, dropped) => {
+            format!("A double: the {many} takers overlap {}.{}", overlap(job, takers), without(many, open, dropped))
         }
     }
 }
 
-/// The steps that lie in the intervals of all takers: intervals that overlap two by two have some in common.
-fn overlap(takers: &[&Operation]) -> String {
+/// Which of several takers do not have what they claimed.
+fn without(takers: usize, open: usize, dropped: usize) -> &'static str {
+    match (open, dropped) {
+        (0, 0) => "",
+        (_, 0) if open == takers => " All of them are open, so nobody has it yet.",
+        (_, 0) => " Those that are open have claimed it and do not have it yet.",
+        (0, _) if dropped == takers => " All of them were dropped, so nobody got it.",
+        (0, _) => " Those that were dropped had claimed it and did not get it.",
+        _ if open + dropped == takers => " Some are open and the others were dropped, so nobody has it yet.",
+        _ => " Those that are open have claimed it and do not have it yet; those that were dropped did not get it.",
+    }
+}
+
+/// The steps that lie in the intervals of all takers, that of a dropped one up to its drop: intervals that overlap two by two have some in
+/// common.
+fn overlap(job: &Job, takers: &[&Operation]) -> String {
     let from = takers.iter().filter_map(|taker| taker.first).max().unwrap_or_default();
-    match takers.iter().filter_map(|taker| taker.last).min() {
+    match takers.iter().filter_map(|taker| taker.last.or(taker.dropped_at(job))).min() {
         Some(to) => format!("from step {from} to step {to}"),
         None => format!("from step {from} on"),
     }
 }
 
 /// A line for each reading that was taken more than once, in the order of their numbers, and how many they are.
-fn doubles(run: &Run) -> Vec<String> {
+fn doubles(job: &Job, run: &Run) -> Vec<String> {
     let mut lines = vec![];
     let doubled: Vec<u16> = run.doubles().collect();
     for (item, value) in readings(run).filter(|(item, _)| doubled.contains(item)) {
         let takers = takers(run, item);
-        lines.push(format!("Reading {item}: {value} cm, to {}; they overlap {}.", all_told(&takers), overlap(&takers)));
+        let (all, overlap) = (all_told(job, &takers), overlap(job, &takers));
+        lines.push(format!("Reading {item}: {value} cm, to {all}; they overlap {overlap}."));
     }
     let all = counted(readings(run).count(), "reading", "readings");
     lines.push(match lines.len() {

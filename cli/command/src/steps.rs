@@ -1,16 +1,17 @@
 //! `bench steps`: the run step by step. The steps are the second replayer's, so they are shown only where its report is the proved one.
 
 mod access;
+mod drops;
 
 use crate::status::{Failure, Status, say};
 use crate::words::counted;
 use crate::{input, output};
-use pigwazet::{Job, Kind};
+use pigwazet::{Job, Kind, Turn};
 use second_replayer::calls::REPORT;
 use second_replayer::file::{self, WORK};
 use second_replayer::machine::{Answer, NONE};
 use second_replayer::report;
-use second_replayer::watch::{Cell, Event, Log, Row};
+use second_replayer::watch::{self, Cell, Event, Log, Row};
 use std::ops::RangeInclusive;
 use std::path::Path;
 
@@ -67,25 +68,54 @@ pub fn agreed(second: Option<(Log, Vec<u8>)>, proved: &str) -> Result<Log, Failu
 pub fn told(job: &Job, log: &Log, op: Option<u16>, range: &RangeInclusive<u16>) -> String {
     let mut text = row("step", "process", "operation", "row", "what");
     let mut events = log.events.iter().peekable();
-    for (process, step) in job.schedule.iter().zip(1u16..) {
-        let event = events.next_if(|event| event.step == step);
-        let asked = op.is_none_or(|op| event.is_some_and(|event| event.operation == op));
+    let mut drops = log.drops.iter().peekable();
+    for (&entry, step) in job.schedule.iter().zip(1u16..) {
+        let came = match (events.next_if(|event| event.step == step), drops.next_if(|drop| drop.step == step)) {
+            (Some(event), _) => Came::Act(event),
+            (None, Some(drop)) => Came::Drop(drop),
+            (None, None) => Came::Nothing,
+        };
+        let asked = op.is_none_or(|op| came.operation() == Some(op));
         if asked && range.contains(&step) {
-            text += &line(job.kind, step, *process, event);
+            text += &line(job, log, step, Turn::of(entry), &came);
         }
     }
     text
 }
 
+/// What came of a step.
+enum Came<'a> {
+    Act(&'a Event),
+    Drop(&'a watch::Drop),
+    /// It was idle.
+    Nothing,
+}
+
+impl Came<'_> {
+    fn operation(&self) -> Option<u16> {
+        match self {
+            Came::Act(event) => Some(event.operation),
+            Came::Drop(drop) => Some(drop.operation),
+            Came::Nothing => None,
+        }
+    }
+}
+
+/// What stands for the row in a drop, which runs none.
+const DROP: &str = "x";
+
 fn row(step: &str, process: &str, operation: &str, row: &str, what: &str) -> String {
     format!("{step:>5}  {process:>7}  {operation:>9}  {row:3}  {what}\n")
 }
 
-fn line(kind: Kind, step: u16, process: u8, event: Option<&Event>) -> String {
-    let (step, process) = (step.to_string(), process.to_string());
-    match event {
-        Some(event) => row(&step, &process, &event.operation.to_string(), &format!("{:?}", event.row), &what(kind, event)),
-        None => row(&step, &process, "-", "-", "idle: no operation remains"),
+fn line(job: &Job, log: &Log, step: u16, turn: Turn, came: &Came) -> String {
+    let (step, process) = (step.to_string(), turn.process().to_string());
+    let operation = came.operation().map_or("-".to_string(), |operation| operation.to_string());
+    match (came, turn) {
+        (Came::Act(event), _) => row(&step, &process, &operation, &format!("{:?}", event.row), &what(job.kind, event)),
+        (Came::Drop(drop), _) => row(&step, &process, &operation, DROP, &drops::told(job, log, drop)),
+        (Came::Nothing, Turn::Drops(_)) => row(&step, &process, &operation, DROP, "idle: no begun operation to drop"),
+        (Came::Nothing, Turn::Acts(_)) => row(&step, &process, &operation, "-", "idle: no operation remains"),
     }
 }
 

@@ -3,7 +3,7 @@
 
 mod shared;
 
-use shared::{Room, generated, samples};
+use shared::{Room, generated, samples, with_drops};
 use std::fs;
 use std::process::Command;
 use std::time::{Duration, Instant};
@@ -31,20 +31,24 @@ fn with_class(dom: &str, class: &str, attribute: &str) -> Vec<String> {
     values
 }
 
-/// What a report says of bars, effects, ties and items left.
+/// What a report says of bars, of those that were dropped, of effects, ties and items left.
 struct Told {
     bars: Vec<String>,
+    cuts: Vec<String>,
     effects: Vec<(String, String)>,
     ties: Vec<String>,
     left: Vec<String>,
 }
 
 fn told(report: &str) -> Told {
-    let mut told = Told { bars: vec![], effects: vec![], ties: vec![], left: vec![] };
+    let mut told = Told { bars: vec![], cuts: vec![], effects: vec![], ties: vec![], left: vec![] };
     for line in report.lines() {
         let words: Vec<String> = line.split(' ').map(String::from).collect();
         match words[0].as_str() {
-            "op" if !line.ends_with("waiting") => told.bars.push(words[1].clone()),
+            "op" if !line.ends_with("waiting") => {
+                told.bars.push(words[1].clone());
+                told.cuts.extend(line.ends_with("dropped").then(|| words[1].clone()));
+            }
             "at" => {
                 let by = words.iter().position(|word| word == "by").map_or(3, |at| at + 1);
                 told.effects.extend(words[by..].iter().map(|own| (own.clone(), words[1].clone())));
@@ -72,6 +76,11 @@ fn held(room: &Room, name: &str, file: &[u8]) -> String {
     effects.sort();
     expected.sort();
     assert_eq!(with_class(&dom, "bar", "data-op"), told.bars, "{name}");
+    assert_eq!(
+        (with_class(&dom, "dropped", "data-op"), with_class(&dom, "cut", "data-op")),
+        (told.cuts.clone(), told.cuts),
+        "{name}"
+    );
     assert_eq!(effects, expected, "{name}");
     assert_eq!(with_class(&dom, "tie", "data-item"), told.ties, "{name}");
     assert_eq!(with_class(&dom, "left", "data-item"), told.left, "{name}");
@@ -86,6 +95,8 @@ fn every_sample_is_drawn_as_its_report_has_it() {
         let dom = held(&room, &name, &file);
         // process 0 of that job has no operation
         assert!(name != "smallest" || dom.contains("queue · 1 operation by 1 process · "));
+        assert!(name != "drop-take" || (dom.contains(" left at the end · 1 dropped<") && dom.contains(">Dropped: 3 at step 9<")));
+        assert!(name != "open-take" || !dom.contains(" dropped<"));
         assert!(name != "linked-help" || (dom.contains("linked stack · 4 operations by ") && dom.contains("(2, top first)")));
     }
 }
@@ -96,6 +107,7 @@ fn generated_jobs_are_drawn_as_their_reports_have_them() {
     let room = Room::new("generated-pages");
     for seed in 0..16 {
         held(&room, &format!("seed-{seed}"), &generated(seed).1);
+        held(&room, &format!("drops-{seed}"), &with_drops(seed).1);
     }
 }
 
@@ -103,7 +115,7 @@ fn generated_jobs_are_drawn_as_their_reports_have_them() {
 #[ignore = "needs a browser: tests/cli/run installs it"]
 fn picking_a_reading_marks_its_put_and_its_takers() {
     let room = Room::new("picked");
-    for name in ["listing", "stack-double", "linked-double", "open-take", "flood-hour"] {
+    for name in ["listing", "stack-double", "linked-double", "open-take", "drop-put", "drop-idle", "flood-hour"] {
         room.sample(&format!("{name}.job"));
         room.bench(&format!("picture {name}.job")).is(0, "", "html");
         let text = fs::read_to_string(shared::top().join("examples").join(name).with_extension("txt")).unwrap();
@@ -139,14 +151,17 @@ fn picking_a_reading_marks_its_put_and_its_takers() {
 #[ignore = "needs a browser: tests/cli/run installs it"]
 fn pointing_shows_the_lines_of_the_report() {
     let room = Room::new("pointed");
-    room.sample("listing.job");
-    room.bench("picture listing.job").is(0, "", "html");
-    let page = room.text("listing.html");
-    for (element, lines) in [
-        (".bar[data-op=\"2\"]", "op 2 process 1 take first 5 last 11 item 1 value 50\nat 11 take 1 by 2 3"),
-        (".effect[data-op=\"1\"]", "at 3 put 1\nop 1 process 0 put 50 first 1 last 4 done"),
-        (".tie", "at 11 take 1 by 2 3"),
+    for (name, element, lines) in [
+        ("listing", ".bar[data-op=\"2\"]", "op 2 process 1 take first 5 last 11 item 1 value 50\nat 11 take 1 by 2 3"),
+        ("listing", ".effect[data-op=\"1\"]", "at 3 put 1\nop 1 process 0 put 50 first 1 last 4 done"),
+        ("listing", ".tie", "at 11 take 1 by 2 3"),
+        ("drop-take", ".bar[data-op=\"3\"]", "op 3 process 1 take first 6 last - dropped\ndropped at step 9\nat 6 take 2 by 3"),
+        ("drop-take", ".cut", "dropped at step 9\nop 3 process 1 take first 6 last - dropped\nat 6 take 2 by 3"),
+        ("drop-put", ".effect[data-op=\"1\"]", "at 3 put 1\nop 1 process 0 put 120 first 1 last - dropped\ndropped at step 4"),
     ] {
+        room.sample(&format!("{name}.job"));
+        room.bench(&format!("picture {name}.job")).is(0, "", "html");
+        let page = room.text(&format!("{name}.html"));
         let point =
             format!("document.querySelector('{element}').dispatchEvent(new PointerEvent('pointerover', {{ bubbles: true }}));");
         room.write("pointed.html", page.replace("</body>", &format!("<script>{point}</script></body>")));

@@ -2,13 +2,14 @@
 
 mod shared;
 
-use bench_command::{reading, steps};
-use second::check::parse::{Effect, Report};
-use shared::{Room, generated, samples, top};
+use bench_command::{input, reading, steps};
+use pigwazet::report::Ending::Dropped;
+use second::check::parse::{Effect, Ending, Report};
+use shared::{Room, generated, samples, top, with_drops};
 use std::fs;
 
 /// A sample, a reading, and its fate.
-const FATES: [(&str, u16, &str); 7] = [
+const FATES: [(&str, u16, &str); 10] = [
     (
         "listing",
         1,
@@ -32,6 +33,30 @@ const FATES: [(&str, u16, &str); 7] = [
          The record has it coming into the queue at step 3.\n\
          The record has it going out at step 11, to operation 2 of process 1 (steps 4 to 11).\n\
          It was taken once: no double.\n",
+    ),
+    (
+        "drop-put",
+        1,
+        "Reading 1: 120 cm, put by operation 1 of process 0 (begun at step 1, dropped at step 4).\n\
+         The record has it coming into the queue at step 3, before its put was dropped.\n\
+         The record has it going out at step 19, to operation 4 of process 2 (steps 16 to 19).\n\
+         It was taken once: no double.\n",
+    ),
+    (
+        "drop-take",
+        2,
+        "Reading 2: 131 cm, put by operation 2 of process 0 (steps 3 to 5).\n\
+         The record has it coming into the stack at step 5.\n\
+         The record has it going out at step 6, to operation 3 of process 1 (begun at step 6, dropped at step 9).\n\
+         That one had claimed it and was dropped, so nobody got it.\n",
+    ),
+    (
+        "drop-idle",
+        1,
+        "Reading 1: 120 cm, put by operation 1 of process 0 (steps 2 to 6).\n\
+         The record has it coming into the linked stack at step 5.\n\
+         The record has it going out at step 10, to operation 2 of process 1 (begun at step 7, dropped at step 11).\n\
+         That one had claimed it and was dropped, so nobody got it.\n",
     ),
     (
         "fifth-trace",
@@ -100,9 +125,11 @@ fn expected(report: &Report, item: u16) -> Expected {
 }
 
 /// Holds the sentences of a fate against what is expected.
-fn holds(text: &str, object: &str, expected: &Expected, all_left: usize) {
+fn holds(text: &str, object: &str, dropped: bool, expected: &Expected, all_left: usize) {
     match expected.put {
+        Some(at) if dropped => assert!(text.contains(&format!(" at step {at}, before its put was dropped.\n")), "{text}"),
         Some(at) => assert!(text.contains(&format!(" at step {at}.\n")), "{text}"),
+        None if dropped => assert!(text.ends_with(&format!("its put was dropped before it came into the {object}.")), "{text}"),
         None => assert!(text.ends_with(&format!("it never came into the {object}.")), "{text}"),
     }
     assert_eq!(text.contains("Nobody took it. "), expected.left.is_some(), "{text}");
@@ -121,14 +148,15 @@ fn holds(text: &str, object: &str, expected: &Expected, all_left: usize) {
 
 #[test]
 fn fates_of_generated_jobs_are_those_of_their_reports() {
-    let (mut doubles, mut kept, mut never) = (0, 0, 0);
+    let (mut doubles, mut kept, mut never, mut drops) = (0, 0, 0, 0);
     for seed in 0..1_600 {
-        let report = pigwazet::replay(&generated(seed).1).unwrap();
+        let file = if seed % 2 == 0 { generated(seed).1 } else { with_drops(seed).1 };
+        let (job, report) = input::replayed(&file).unwrap();
         let run = report.run();
         let apart = Report::of(report.as_str().as_bytes()).unwrap();
         for operation in &apart.operations {
             let item = operation.number;
-            let fate = reading::fate(&run, item);
+            let fate = reading::fate(&job, &run, item);
             assert_eq!(fate.is_some(), operation.put.is_some(), "seed {seed}, {item}");
             let (Some(fate), Some(value)) = (fate, operation.put) else { continue };
             let text = fate.join("\n");
@@ -136,13 +164,15 @@ fn fates_of_generated_jobs_are_those_of_their_reports() {
             let begins = format!("Reading {item}: {value} cm, {by} operation {item} of process {} (", operation.process);
             assert!(text.starts_with(&begins), "seed {seed}: {text}");
             let expected = expected(&apart, item);
-            holds(&text, run.kind.noun(), &expected, apart.left.len());
+            let dropped = operation.ending == Ending::Dropped;
+            holds(&text, run.kind.noun(), dropped, &expected, apart.left.len());
+            drops += usize::from(dropped);
             doubles += usize::from(expected.taken.is_some_and(|(_, takers)| takers.len() > 1));
             kept += usize::from(expected.left.is_some());
             never += usize::from(expected.put.is_none());
         }
     }
-    assert!(doubles > 100 && kept > 100 && never > 100, "{doubles} {kept} {never}");
+    assert!(doubles > 100 && kept > 100 && never > 100 && drops > 100, "{doubles} {kept} {never} {drops}");
 }
 
 #[test]
@@ -250,6 +280,98 @@ fn steps_of_a_linked_stack_in_words() {
     }
 }
 
+/// A put that is in and one that is not, a take that came to nothing, and drops with nothing to drop.
+const DROPS: &str = "queue
+processes 2
+put 0 500
+put 0 510
+take 1
+take 1
+order 0 0 0 drop 0 x 2
+order 0 drop 0
+order 1 1 drop 1
+order 1 x 8 drop 1 1
+";
+
+#[test]
+fn drops_in_words() {
+    let room = Room::new("drops");
+    room.write("drops.txt", DROPS);
+    room.bench("make drops.txt").is(0, "", "drops.job: queue, 2 processes, 4 operations, 20 steps with 5 drops\n");
+    let out = room.bench("steps drops.job").out;
+    for line in "    4        0          1  x    drops operation 1, behind Q3: reading 1 is in all the same
+    5        0          -  x    idle: no begun operation to drop
+    6        0          2  Q1   reads Tail: node 0
+    7        0          2  x    drops operation 2, behind Q1: reading 2 does not come in
+   10        1          3  x    drops operation 3, behind T2: nothing was taken
+   18        1          4  T5   sets Head from node 0 to node 1: changed; reading 1 is out; ends with reading 1
+   19        1          -  x    idle: no begun operation to drop
+   20        1          -  -    idle: no operation remains"
+        .lines()
+    {
+        assert!(out.lines().any(|other| other == line), "not among the steps: {line}\n{out}");
+    }
+    let only: Vec<&str> =
+        out.lines().enumerate().filter(|(step, _)| [0, 8, 9, 10].contains(step)).map(|(_, line)| line).collect();
+    room.bench("steps drops.job --op 3").is(0, &(only.join("\n") + "\n"), "");
+    room.write("linked.txt", "linked\nprocesses 2\nput 0 500\ntake 1\norder 0 x 4 drop 0 1 x 7 drop 1\n");
+    room.bench("make linked.txt").is(0, "", "linked.job: ");
+    let out = room.bench("steps linked.job").out;
+    for words in [
+        "drops operation 1, behind V4: reading 1 is in all the same\n",
+        "drops operation 2, behind W4: it had claimed reading 1 and does not get it\n",
+    ] {
+        assert!(out.contains(words), "{out}");
+    }
+}
+
+#[test]
+fn fates_of_dropped_puts() {
+    let room = Room::new("dropped-puts");
+    room.write("drops.txt", DROPS);
+    room.bench("make drops.txt").is(0, "", "drops.job: ");
+    let fate = "Reading 1: 50 cm, put by operation 1 of process 0 (begun at step 1, dropped at step 4).
+The record has it coming into the queue at step 3, before its put was dropped.
+The record has it going out at step 18, to operation 4 of process 1 (steps 11 to 18).
+It was taken once: no double.
+";
+    room.bench("reading drops.job 1").is(0, fate, "");
+    let fate = "Reading 2: 51 cm, put by operation 2 of process 0 (begun at step 6, dropped at step 7).
+It is not in the record: its put was dropped before it came into the queue.
+";
+    room.bench("reading drops.job 2").is(0, fate, "");
+}
+
+/// Three takes that claim one reading, and then a number of ends: who has it.
+#[test]
+fn who_of_several_takers_has_the_reading() {
+    let room = Room::new("takers");
+    let sentence = |who: &str, to: &str| format!("\nA double: the 3 takers overlap from step 7 {to}.{who}\n");
+    for (order, to, who) in [
+        ("", "on", " All of them are open, so nobody has it yet."),
+        ("order 1", "to step 12", " Those that are open have claimed it and do not have it yet."),
+        ("order 1 2 3", "to step 12", ""),
+        ("order drop 1 2 3", "to step 12", " Those that were dropped had claimed it and did not get it."),
+        ("order 3 1 drop 2", "to step 12", " Those that were dropped had claimed it and did not get it."),
+        ("order drop 3 drop 2 drop 1", "to step 12", " All of them were dropped, so nobody got it."),
+        ("order drop 1", "to step 12", " Some are open and the others were dropped, so nobody has it yet."),
+        (
+            "order 2 drop 1",
+            "to step 12",
+            " Those that are open have claimed it and do not have it yet; those that were dropped did not get it.",
+        ),
+    ] {
+        let puts = "stack\nprocesses 4\nput 0 1200\ntake 1\ntake 2\ntake 3\norder 0 0 1 1 2 2 3 3 1 2 3\n";
+        room.write("takers.txt", format!("{puts}{order}\n"));
+        room.bench("make takers.txt --out takers.job").is(0, "", "takers.job: ");
+        room.bench("reading takers.job 1").tells(0, &sentence(who, to));
+        room.bench("reading takers.job --doubles").tells(0, &format!("; they overlap from step 7 {to}.\n"));
+    }
+    room.write("one.txt", "stack\nprocesses 2\nput 0 1200\ntake 1\norder 0 0 1 x 3 drop 1\n");
+    room.bench("make one.txt").is(0, "", "one.job: ");
+    room.bench("reading one.job 1").tells(0, "\nThat one had claimed it and was dropped, so nobody got it.\n");
+}
+
 /// The rows that docs/STEPS.md lays out under a job: its lines `process` and `row`.
 #[test]
 fn rows_are_those_that_the_page_about_steps_shows() {
@@ -278,10 +400,11 @@ fn rows_are_those_that_the_page_about_steps_shows() {
 
 #[test]
 fn the_two_replayers_agree_and_every_step_has_a_line() {
-    let files = (0..800).map(|seed| generated(seed).1).chain(samples().into_iter().map(|(_, file)| file));
+    let files =
+        (0..800).flat_map(|seed| [generated(seed).1, with_drops(seed).1]).chain(samples().into_iter().map(|(_, file)| file));
+    let mut dropped = 0;
     for file in files {
-        let proved = pigwazet::replay(&file).unwrap();
-        let job = pigwazet::read(&file).unwrap();
+        let (job, proved) = input::replayed(&file).unwrap();
         let log = steps::agreed(steps::second(&file), proved.as_str()).unwrap();
         let all = job.schedule.len();
         let text = steps::told(&job, &log, None, &(1..=all as u16));
@@ -289,6 +412,16 @@ fn the_two_replayers_agree_and_every_step_has_a_line() {
         let of_each: usize = (1..=job.operations.len() as u16)
             .map(|op| steps::told(&job, &log, Some(op), &(1..=all as u16)).lines().count() - 1)
             .sum();
-        assert_eq!(of_each + text.matches("idle: no operation remains").count(), all);
+        assert_eq!(of_each + text.matches("  idle: ").count(), all);
+        // the job tells of the report's drops what the second replayer saw
+        let run = proved.run();
+        let mut told: Vec<(u16, u16)> =
+            run.operations.iter().filter_map(|own| Some((own.dropped_at(&job)?, own.number))).collect();
+        told.sort();
+        let seen: Vec<(u16, u16)> = log.drops.iter().map(|drop| (drop.step, drop.operation)).collect();
+        assert_eq!((&told, run.operations.iter().filter(|own| own.ending == Dropped).count()), (&seen, seen.len()));
+        assert_eq!(text.matches("  drops operation ").count(), seen.len());
+        dropped += seen.len();
     }
+    assert!(dropped > 1_000, "{dropped}");
 }

@@ -2,11 +2,12 @@
 
 mod shared;
 
-use bench_command::text::{parse, print};
+use bench_command::text::parse::{self, Wrong};
+use bench_command::text::print;
 use pigwazet::limits::{OPERATIONS, STEPS};
 use pigwazet::{Action, Job, Kind, Operation};
 use rayon::prelude::*;
-use shared::{Room, generated, samples};
+use shared::{Room, generated, samples, with_drops};
 
 /// A file as text, and the file made of that text.
 fn there_and_back(file: &[u8]) -> (String, Vec<u8>) {
@@ -18,10 +19,11 @@ fn there_and_back(file: &[u8]) -> (String, Vec<u8>) {
 #[test]
 fn make_after_text_gives_the_very_file() {
     // as many jobs as the second replayer is compared on
-    (0..40_000).into_par_iter().for_each(|seed| {
-        let (_, file) = generated(seed);
-        let (text, again) = there_and_back(&file);
-        assert!(again == file, "seed {seed}:\n{text}");
+    (0..20_000).into_par_iter().for_each(|seed| {
+        for file in [generated(seed).1, with_drops(seed).1] {
+            let (text, again) = there_and_back(&file);
+            assert!(again == file, "seed {seed}:\n{text}");
+        }
     });
 }
 
@@ -61,6 +63,26 @@ fn a_linked_stack_has_a_word_of_its_own() {
 }
 
 #[test]
+fn a_drop_is_a_turn_and_repeats_as_any_other() {
+    let text = |order: &str| format!("queue\nprocesses 4\ntake 3\n{order}\n");
+    for (order, schedule) in [
+        ("order 0 0 drop 3 1 x 4", &[0, 0, 131, 1, 1, 1, 1][..]),
+        ("order drop 3 x 2", &[131, 131]),
+        ("order drop 0\norder 0\norder drop 0 drop 1 x 1 0", &[128, 0, 128, 129, 0]),
+    ] {
+        assert_eq!(parse::job(&text(order)).unwrap().schedule, schedule, "{order}");
+    }
+    let job = parse::job(&text("order drop 3 x 3 3 x 3 drop 3 drop 3")).unwrap();
+    assert!(print::job(&job).ends_with("\norder drop 3 x 3 3 x 3 drop 3 drop 3  # steps 1 to 8\n"));
+    let room = Room::new("drops-as-text");
+    room.write("hour.txt", text("order 3 drop 3 x 2"));
+    room.bench("make hour.txt").is(0, "", "hour.job: queue, 4 processes, 1 operation, 3 steps with 2 drops\n");
+    room.bench("text hour.job").tells(0, "\norder 3 drop 3 drop 3  # steps 1 to 3\n");
+    room.write("one.txt", text("order 3 drop 0"));
+    room.bench("make one.txt").is(0, "", "one.job: queue, 4 processes, 1 operation, 2 steps with 1 drop\n");
+}
+
+#[test]
 fn a_text_at_the_limits_is_a_job_and_one_past_them_is_not() {
     let puts = |count: usize| "put 7 -32768\n".repeat(count);
     let text = |operations: usize, steps: usize| format!("stack\nprocesses 8\n{}order 7 x {steps}\n", puts(operations));
@@ -79,45 +101,73 @@ fn with(line: &str) -> String {
     format!("queue\nprocesses 3\nput 0 500\n{line}\norder 0 1 2\n")
 }
 
+/// What is told of that line.
+#[track_caller]
+fn told(line: &str, found: &str, allowed: &str) {
+    let faults = parse::job(&with(line)).unwrap_err();
+    assert_eq!(faults.len(), 1, "{line}: {faults:?}");
+    let Wrong { found: told, allowed: instead } = &faults[0].wrong;
+    assert_eq!((faults[0].line, told.as_str(), instead.as_str()), (4, found, allowed), "{line}");
+}
+
+const END: &str = "the end of the line";
+const PROCESS: &str = "a process, 0 to 2";
+
 #[test]
 fn what_was_found_and_what_is_allowed() {
-    let end = "the end of the line";
-    let process = "a process, 0 to 2";
+    let begins = "a line that begins with queue, stack, linked, processes, put, take or order";
+    let stage = "a stage in mm, -32,768 to 32,767";
+    let comment = "the end of the line, or # and a comment";
     for (line, found, allowed) in [
-        ("pit 0 500", "'pit'", "a line that begins with queue, stack, linked, processes, put, take or order"),
-        ("Take 1", "'Take'", "a line that begins with queue, stack, linked, processes, put, take or order"),
-        ("bank", "'bank'", "a line that begins with queue, stack, linked, processes, put, take or order"),
-        ("put 3 500", "'3'", process),
-        ("put -1 500", "'-1'", process),
-        ("put +1 500", "'+1'", process),
-        ("put 0", end, "a stage in mm, -32,768 to 32,767"),
-        ("put 0 32768", "'32768'", "a stage in mm, -32,768 to 32,767"),
-        ("put 0 -32769", "'-32769'", "a stage in mm, -32,768 to 32,767"),
-        ("put 0 5.5", "'5.5'", "a stage in mm, -32,768 to 32,767"),
-        ("put 0 \u{2212}15", "'\u{2212}15', which does not begin with the - of a keyboard", "a stage in mm, -32,768 to 32,767"),
-        ("put 0 500 on 2", "'on'", "the end of the line, or # and a comment"),
-        ("take", end, process),
-        ("take 1 0", "'0'", "the end of the line, or # and a comment"),
-        ("order", end, process),
-        ("order 0 x", end, "how often, 1 to 16,384"),
-        ("order 0 x 0", "'0'", "how often, 1 to 16,384"),
-        ("order 0 x4", "'x4'", "a process, 0 to 2, or x and how often"),
-        ("order 0 x 4 x 4", "'x'", process),
-        ("put\u{a0}0 500", "'put\u{a0}0'", "a line that begins with queue, stack, linked, processes, put, take or order"),
-        ("order x 4", "'x'", process),
-        ("order drop 1", "'drop'", process),
-        ("order 99999999999999999999", "'99999999999999999999'", process),
+        ("pit 0 500", "'pit'", begins),
+        ("Take 1", "'Take'", begins),
+        ("bank", "'bank'", begins),
+        ("drop 1", "'drop'", begins),
+        ("put\u{a0}0 500", "'put\u{a0}0'", begins),
+        ("put 3 500", "'3'", PROCESS),
+        ("put -1 500", "'-1'", PROCESS),
+        ("put +1 500", "'+1'", PROCESS),
+        ("put drop 0 500", "'drop'", PROCESS),
+        ("put 0", END, stage),
+        ("put 0 32768", "'32768'", stage),
+        ("put 0 -32769", "'-32769'", stage),
+        ("put 0 5.5", "'5.5'", stage),
+        ("put 0 \u{2212}15", "'\u{2212}15', which does not begin with the - of a keyboard", stage),
+        ("put 0 500 on 2", "'on'", comment),
+        ("take", END, PROCESS),
+        ("take 1 0", "'0'", comment),
         ("stack", "a second object, 'stack'", "one object"),
         ("linked", "a second object, 'linked'", "one object"),
         ("processes 3", "a second line of processes", "one"),
     ] {
-        let faults = parse::job(&with(line)).unwrap_err();
-        assert_eq!(faults.len(), 1, "{line}: {faults:?}");
-        assert_eq!(
-            (faults[0].line, faults[0].wrong.found.as_str(), faults[0].wrong.allowed.as_str()),
-            (4, found, allowed),
-            "{line}"
-        );
+        told(line, found, allowed);
+    }
+}
+
+#[test]
+fn what_is_wrong_in_an_order() {
+    let turn = "a process, 0 to 2, or drop and one";
+    let turn_or_repeat = "a process, 0 to 2, or drop and one, or x and how often";
+    let count = "how often, 1 to 16,384";
+    for (line, found, allowed) in [
+        ("order", END, turn),
+        ("order 0 x", END, count),
+        ("order 0 x 0", "'0'", count),
+        ("order 0 x4", "'x4'", turn_or_repeat),
+        ("order 0 x 4 x 4", "'x'", turn),
+        ("order x 4", "'x'", turn),
+        ("order 99999999999999999999", "'99999999999999999999'", turn),
+        ("order 129", "'129'", turn),
+        ("order Drop 1", "'Drop'", turn),
+        ("order 0 dorp 1", "'dorp'", turn_or_repeat),
+        ("order drop", END, PROCESS),
+        ("order 0 x 2 drop", END, PROCESS),
+        ("order drop 3", "'3'", PROCESS),
+        ("order drop x 2", "'x'", PROCESS),
+        ("order drop drop 1", "'drop'", PROCESS),
+        ("order drop 1 x", END, count),
+    ] {
+        told(line, found, allowed);
     }
 }
 
@@ -129,6 +179,7 @@ fn what_is_missing_is_told() {
         ("queue\n", 1, "the end of the text, and no line of processes"),
         ("queue\nprocesses 1\norder 0\n", 3, "the end of the text, and no operation"),
         ("queue\nput 0 5\nprocesses 1\n", 2, "no line of processes yet"),
+        ("queue\norder drop 0\nprocesses 1\n", 2, "no line of processes yet"),
         ("processes 1\ntake 0\n", 2, "the end of the text, and no object"),
         ("queue\nprocesses 9\nput 8 5\n", 2, "'9'"),
         ("queue\rprocesses 1\rput 0 5\r", 1, "'queue\\rprocesses'"),

@@ -115,6 +115,9 @@ fn an_accepted_a_missing_and_an_empty_file() {
         room.write("card.job", changed(&[(0, kind)]));
         room.bench("why card.job").is(0, "card.job: accepted, nothing is wrong with it\n", "");
     }
+    // a drop by the last process
+    room.write("card.job", changed(&[(20, 130)]));
+    room.bench("why card.job").is(0, "card.job: accepted, nothing is wrong with it\n", "");
     room.bench("why missing.job").fails("missing.job could not be read: ");
     room.bench_with("why -", b"").tells(1, "standard input: refused 2\n");
 }
@@ -192,7 +195,12 @@ fn records_entries_and_padding() {
     let (place, value) = (at("operation 2, its value, at", 14), "a take with the value ");
     told(&room, changed(&[(13, 1)]), 10, &place, &format!("{value}1"), "a take has the value 0.");
     told(&room, changed(&[(12, 255), (13, 255)]), 10, &place, &format!("{value}-1"), "a take has the value 0.");
-    told(&room, changed(&[(20, 3)]), 11, &at("the schedule's entry for step 3, at", 22), "process 3", processes);
+    let place = at("the schedule's entry for step 3, at", 22);
+    for (entry, found) in
+        [(3, "process 3"), (127, "process 127"), (131, "131, a drop by process 3"), (255, "255, a drop by process 127")]
+    {
+        told(&room, changed(&[(20, entry)]), 11, &place, found, processes);
+    }
     let place = at("the first byte behind the stream that is not zero,", 42);
     told(&room, changed(&[(40, 4)]), 12, &place, "4; the stream ended 11 bytes before", "fill the last block with zeros");
 }

@@ -1,6 +1,6 @@
 //! A job under names, and its stream: document 01's "Job files".
 
-use crate::limits::{HEADER, RECORD};
+use crate::limits::{DROP, HEADER, RECORD};
 
 /// The shared object that a job runs on.
 #[derive(Clone, Copy, PartialEq, Eq, Hash, Debug)]
@@ -70,7 +70,35 @@ pub struct Operation {
     pub action: Action,
 }
 
-/// A job: operation 1 is the first of `operations`, step 1 the first of `schedule`, whose entries are processes.
+/// Whose turn a step is: the process makes the next step of its operations, or it drops the operation that it has begun.
+#[derive(Clone, Copy, PartialEq, Eq, Hash, Debug)]
+pub enum Turn {
+    Acts(u8),
+    Drops(u8),
+}
+
+impl Turn {
+    /// What a schedule entry says.
+    pub fn of(entry: u8) -> Turn {
+        if entry < DROP { Turn::Acts(entry) } else { Turn::Drops(entry - DROP) }
+    }
+
+    /// As a schedule entry. A process past all that an entry can name becomes the last of them, which no job has.
+    pub fn entry(self) -> u8 {
+        match self {
+            Turn::Acts(process) => process.min(DROP - 1),
+            Turn::Drops(process) => DROP.saturating_add(process),
+        }
+    }
+
+    pub fn process(self) -> u8 {
+        match self {
+            Turn::Acts(process) | Turn::Drops(process) => process,
+        }
+    }
+}
+
+/// A job: operation 1 is the first of `operations`, step 1 the first of `schedule`. An entry there is a process, or a [`Turn`] as an entry.
 #[derive(Clone, PartialEq, Eq, Hash, Debug)]
 pub struct Job {
     pub kind: Kind,

@@ -43,7 +43,7 @@ mod memory;
 mod refusal;
 pub mod report;
 
-pub use job::{Action, Job, Kind, Operation};
+pub use job::{Action, Job, Kind, Operation, Turn};
 pub use memory::Memory;
 pub use refusal::Refusal;
 pub use report::Report;
@@ -98,6 +98,22 @@ pub fn read(file: &[u8]) -> Result<Job, Refusal> {
 ///
 /// job.schedule.push(1); // there is only process 0
 /// assert_eq!(pigwazet::write(&job).unwrap_err().number(), 11);
+/// # Ok::<(), pigwazet::Refusal>(())
+/// ```
+///
+/// An uplink that loses power half way drops the operation that it has begun and goes on with its next:
+///
+/// ```
+/// use pigwazet::report::Ending;
+/// use pigwazet::{Action, Job, Kind, Operation, Turn};
+///
+/// let take = Operation { process: 0, action: Action::Take };
+/// let schedule = [Turn::Acts(0), Turn::Drops(0), Turn::Acts(0), Turn::Acts(0), Turn::Acts(0)].map(Turn::entry).to_vec();
+/// let job = Job { kind: Kind::Queue, processes: 1, operations: vec![take, take], schedule };
+/// let report = pigwazet::replay(&pigwazet::write(&job)?)?;
+/// let run = report.run();
+/// assert_eq!((run.operations[0].ending, run.operations[1].ending), (Ending::Dropped, Ending::Empty));
+/// assert_eq!(run.operations[0].dropped_at(&job), Some(2));
 /// # Ok::<(), pigwazet::Refusal>(())
 /// ```
 pub fn write(job: &Job) -> Result<Vec<u8>, Refusal> {

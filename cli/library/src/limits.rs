@@ -1,4 +1,4 @@
-//! The figures of document 01 that a caller meets, each once.
+//! The figures of documents 01 and 02 that a caller meets, each once.
 
 /// Bytes of a block, and of the payload in it.
 pub const BLOCK: usize = 512;
@@ -19,3 +19,6 @@ pub const RECORD: usize = 4;
 pub const PROCESSES: usize = 8;
 pub const OPERATIONS: usize = 256;
 pub const STEPS: usize = 16_384;
+
+/// A schedule entry from this on is a drop, by the process that remains when this is taken off.
+pub const DROP: u8 = 128;

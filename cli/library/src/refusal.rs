@@ -32,7 +32,7 @@ impl Refusal {
             10 => {
                 "an operation's process is none of the job's, its action is neither a put nor a take, or it is a take with a value"
             }
-            11 => "a schedule entry is no process of the job",
+            11 => "a schedule entry is neither a process of the job nor 128 + one, a drop",
             12 => "a byte behind the stream is not zero",
             _ => "a number that this version does not know",
         }

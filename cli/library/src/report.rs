@@ -2,7 +2,7 @@
 
 mod parse;
 
-use crate::job::Kind;
+use crate::job::{Job, Kind, Turn};
 use std::fmt;
 
 /// The report of a replay, whole: lines of plain text, each ended by a newline.
@@ -46,6 +46,8 @@ pub enum Ending {
     Empty,
     /// Begun, not ended.
     Open,
+    /// Begun, and dropped before it ended.
+    Dropped,
     /// Not begun.
     Waiting,
 }
@@ -61,6 +63,17 @@ pub struct Operation<'a> {
     pub ending: Ending,
     /// The line as the report has it.
     pub line: &'a str,
+}
+
+impl Operation<'_> {
+    /// The step in which it was dropped, if it was. A report does not tell the step, its job does: the first drop by the operation's process
+    /// behind its first step.
+    pub fn dropped_at(&self, job: &Job) -> Option<u16> {
+        let first = self.first.filter(|_| self.ending == Ending::Dropped)?;
+        let drop = Turn::Drops(self.process).entry();
+        let mut later = (1..).zip(&job.schedule).skip(usize::from(first));
+        later.find_map(|(step, &entry)| (entry == drop).then_some(step))
+    }
 }
 
 /// What a line of the record says.

@@ -1,7 +1,7 @@
 //! The figures of `pigwazet::limits` are the library's: a job at each limit has a file, and one past it is refused with the limit's number.
 
-use pigwazet::limits::{BLOCK, FILE, OPERATIONS, PAYLOAD, PROCESSES, STEPS, WORK};
-use pigwazet::{Action, Job, Kind, Operation};
+use pigwazet::limits::{BLOCK, DROP, FILE, OPERATIONS, PAYLOAD, PROCESSES, STEPS, WORK};
+use pigwazet::{Action, Job, Kind, Operation, Turn};
 
 fn job(processes: usize, operations: usize, steps: usize) -> Job {
     let put = Operation { process: 0, action: Action::Put(i16::MIN) };
@@ -38,6 +38,23 @@ fn a_process_that_the_job_has_not_is_refused() {
     assert_eq!(refused(&wrong), Some(11));
     wrong.operations[1].process = 1;
     assert_eq!(refused(&wrong), Some(10));
+}
+
+#[test]
+fn every_entry_is_a_step_or_a_drop_of_a_process_or_is_refused() {
+    for entry in 0..=u8::MAX {
+        let turn = Turn::of(entry);
+        assert_eq!((turn.entry(), turn.process(), matches!(turn, Turn::Drops(_))), (entry, entry % DROP, entry >= DROP));
+        let mut job = job(3, 1, 2);
+        job.schedule[1] = entry;
+        let refusal = (turn.process() >= 3).then_some(11);
+        assert_eq!(refused(&job), refusal, "{entry}");
+        if refusal.is_none() {
+            assert_eq!(pigwazet::read(&pigwazet::write(&job).unwrap()), Ok(job));
+        }
+    }
+    // a process that no entry can name is refused too
+    assert_eq!([Turn::Acts(128), Turn::Drops(128), Turn::Drops(255)].map(Turn::entry), [127, 255, 255]);
 }
 
 #[test]

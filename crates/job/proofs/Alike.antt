@@ -3,7 +3,7 @@
 use mathlib.Core.Path.{_≡_, refl, sym, ap, ap₂, _∙_}
 use Prim.Native.Nat.{ℕ, zero, suc, _+_, _-_, _*_, _/_, _≤_, _<_}
 use native.Mathlib.Omega.{arith}
-use mathlib.Core.Bool.{Bool, not, _||_}
+use mathlib.Core.Bool.{Bool, _||_}
 use mathlib.Core.List.{List}
 use Rattle.basics.specs.Choice.{less}
 use Rattle.basics.specs.Maps.{at}
@@ -11,7 +11,6 @@ use Rattle.basics.specs.Words.{word}
 use Rattle.block.specs.Block.{payload-size}
 use Rattle.job.specs.declared.Limits.{Limits}
 use Rattle.job.specs.Kind.{kind-of, is-missing}
-use Rattle.job.specs.Slot.{slot-of, process-of}
 use Rattle.job.specs.Stream.{kind, processes, operations, schedule-length, record-at, process, action, value, scheduled, stream-length}
 use Rattle.job.specs.Refusals.{any, outside, exact-count, bad-kind, bad-processes, bad-operations, bad-schedule-length, bad-record, bad-records, bad-entry, bad-schedule}
 use Rattle.job.proofs.Accepted.{Fine}
@@ -66,7 +65,7 @@ module _ {s t : List ℕ} (a : Alike s t) where
   unfolding bad-entry scheduled stream-length
   entry-alike k low high =
       let step : scheduled s k ≡ scheduled t k = a .byte (5 + 4 * operations s + k) (omega arith) ∙ ap (λ (n : ℕ). at t (5 + 4 * n + k)) operations-alike in
-      ap₂ (λ (x p : ℕ). not (less (process-of (slot-of x)) p)) step processes-alike
+      simp (step, processes-alike)
 
   pub fine-alike : {l : Limits} → Fine l s → Fine l t
   unfolding bad-kind bad-processes bad-operations bad-schedule-length bad-records bad-schedule

@@ -181,12 +181,12 @@ module _ (j : Job) where
   unfolding dropping
   dropping-within process s w =
       let o : ℕ = s .places process .operation .0 in
-      pick-elim (Within j) (s .begun o) (record { memory = s .memory; places = upd (s .places) process (before j (operation-after j process o)); begun = s .begun }) s
+      pick-elim (Within j) _ _ _
       (λ drops.
       record {
         memory = w .memory;
         place = λ q.
-            upd-elim (PlaceWithin (j .count)) (s .places) process (before j (operation-after j process o)) q
+            upd-elim (PlaceWithin (j .count)) (s .places) process _ q
             (λ here. before-within process o (w .begun o drops))
             (λ there. w .place q);
         begun = w .begun;

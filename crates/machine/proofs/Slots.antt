@@ -13,7 +13,7 @@ use Rattle.machine.specs.declared.Row.{Row}
 use Rattle.machine.specs.Access.{Registers, Reached}
 use Rattle.machine.specs.Table.{End, end-of, is-end, ended}
 use Rattle.machine.specs.Table.End.{no-end, with-done, with-n, with-t, with-empty}
-use Rattle.machine.specs.Run.{State, operation-after, before, reached, place-after, resting, acting, dropping, step, state-after}
+use Rattle.machine.specs.Run.{operation-after, before, reached, place-after, resting, acting, dropping, step, state-after}
 use Rattle.machine.specs.Notes.{answer-at, answer-of, is-answer, idle, acted, note-next, note}
 use Rattle.machine.specs.Drops.{dropped-next, dropped}
 

@@ -250,10 +250,6 @@ module _ (j : Job) (o : ℕ) where
   unfolding drop drops-it
   drop-new k e z = earliest-new drops-it k z (equal-same e)
 
-  pub drop-stays : (k l : ℕ) → k ≤ l → drop j k o ≢ 0 → drop j l o ≡ drop j k o
-  unfolding drop drops-it
-  drop-stays k l later n = earliest-stays drops-it k l later n
-
   -- it is the step that drops it
   pub drop-drops : (k : ℕ) → drop j k o ≢ 0 → dropped j (drop j k o) ≡ o
   unfolding drop drops-it

@@ -16,7 +16,7 @@ use Rattle.machine.specs.Notes.{Answer, note}
 use Rattle.machine.specs.Journal.{first, last, answer, link, taken}
 use Rattle.machine.specs.Effects.{takers, takes-at, is-stack, took-effect, Precedes, Overlap}
 use Rattle.machine.specs.Drops.{drop}
-use Rattle.machine.specs.Record.{Recorded, the-record, lines-of}
+use Rattle.machine.specs.Record.{Recorded, run-line, the-record, lines-of}
 use Rattle.machine.specs.Left.{left}
 
 -- the operations in a line
@@ -73,12 +73,14 @@ pub record InEffect (j : Job) (k o : ℕ) : Type 0 where
   pub from-first : first (note j) k o ≤ place .step
 
 -- Document 02, request 4: "A dropped operation […] has no last step, and is recorded by the same conditions as an open one. Its effect, if
--- any, stands no later than the drop". It began before it, and makes no step behind it.
+-- any, stands no later than the drop". It began before it and makes no step behind it; the drop is nobody's step and has no line.
 pub record Dropped (j : Job) (k o : ℕ) : Type 0 where
   pub begun : first (note j) k o ≢ 0
   pub from-first : first (note j) k o < drop j k o
   pub no-last : last (note j) k o ≡ 0
   pub no-step-behind : (s : ℕ) → s ≤ k → note j s .by ≡ o → s < drop j k o
+  pub by-nobody : note j (drop j k o) .by ≡ 0
+  pub no-line : run-line j k (drop j k o) ≡ []
   pub no-later : (r : Recorded) → List·Memᴰ r (the-record j k) → List·Memᴰ o (members (r .line)) → r .step ≤ drop j k o
 
 -- the number of put lines, and of takers' lines

@@ -10,7 +10,7 @@ use Rattle.basics.proofs.Choice.{pick-then, equal-same, lt-less, le-less}
 use Rattle.rows.specs.Rows as Rows
 use Rattle.rows.specs.Rows.{column}
 use Rattle.rows.specs.Nodes.{node-width, nexts}
-use Rattle.rows.specs.Operations.{cells}
+use Rattle.rows.specs.Operations.{HasOps, cells}
 use Rattle.rows.proofs.Operations.{by-column}
 use Rattle.job.specs.declared.Heading.{Heading}
 use Rattle.job.specs.declared.Process.{Process}
@@ -181,6 +181,10 @@ module _ {stream : List ℕ} {job : Heading} (r : Runnable stream job) {k : ℕ}
         noting = record { own-row = omega (arith, few r, room .of-ops); item-row = omega (arith, few r, item, room .of-ops) };
         entering = omega (arith, short r, room .of-steps);
       }
+
+  -- a drop's row is there
+  pub drop-room : Room nodes₀ ops₀ by₀ → place .operation .0 ≤ job .count → HasOps (place .operation .0) ops
+  drop-room lent h = omega (arith, few r, room-kept (t .lengths) lent .of-ops)
 
   -- one that has operations is among those counted
   pub counted-in : place .operation .0 ≤ job .count → 1 ≤ total

@@ -82,6 +82,7 @@ module _ (j : Job) (k : ℕ) where
 
   -- nothing happens where the process that is named has no operation remaining, whether it is to step or to drop
   pub rest-idles : resting j (state-after j k .places (process-of (j .slot (suc k)))) ≡ true → Idling j k
+  unfolding process-of
   rest-idles = by-slot (j .slot (suc k)) refl
     where
       -- what has begun is an operation

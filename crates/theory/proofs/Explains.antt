@@ -1,7 +1,7 @@
 -- From the laws of the course that a job's run is to Explained, once, for every object. Assumes nothing.
 use mathlib.Core.Path.{_≡_, refl, sym, ap, subst, _∙_}
 use mathlib.Core.Logic.{_≢_}
-use Prim.Native.Nat.{ℕ, _≤_, _<_}
+use Prim.Native.Nat.{ℕ, _<_}
 use mathlib.Core.Bool.{true, false, not, _&&_, _||_, true≢false, or-true, and-false}
 use mathlib.Core.List.{List, List·Memᴰ}
 use native.Mathlib.Omega.{arith}
@@ -32,9 +32,9 @@ use Rattle.theory.proofs.Lines.{effect-of-taker, effect-of-empty}
 use Rattle.theory.proofs.Laws.{Laws}
 use Rattle.theory.proofs.Operations.{course}
 use Rattle.theory.proofs.Operations.Locals.{memory}
-use Rattle.theory.proofs.Operations.Drops.{no-step-behind, no-last, dropped-begun}
+use Rattle.theory.proofs.Operations.Drops.{by-nobody-at, no-step-behind, no-last, dropped-begun}
 use Rattle.theory.proofs.Explains.Plays.{plays, conserves}
-use Rattle.theory.proofs.Explains.Owns.{Member, member, Own, own, own-to-last}
+use Rattle.theory.proofs.Explains.Owns.{nobody-no-line, Member, member, Own, own, own-to-last}
 use Rattle.theory.proofs.Explains.Once.{with-effect, without-effect}
 pub mod Plays
 pub mod Owns
@@ -181,6 +181,8 @@ module _ (j : Job) (k : ℕ) (laws : Laws (course j) k) where
         from-first = begun .1;
         no-last = no-last j k o some found;
         no-step-behind = λ s upto by. no-step-behind j k o s some found by;
+        by-nobody = by-nobody-at j k o some found;
+        no-line = nobody-no-line (course j) k (drop j k o) (omega arith) (by-nobody-at j k o some found);
         no-later = λ r h m.
             (let w : Own (course j) k o (r .step) (r .line) = owned r h o m .1 in
             omega (arith, w .to-own, no-step-behind j k o (w .own-step) some found (same-equal (w .is-own))));

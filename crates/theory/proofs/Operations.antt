@@ -5,9 +5,9 @@ pub mod Hands
 pub mod Drops
 use mathlib.Core.Path.{_≡_, refl, sym, ap, subst, _∙_}
 use mathlib.Core.Logic.{_≢_, _⊎_, inl, inr}
-use Prim.Native.Nat.{ℕ, zero, suc, _≤_, _<_}
+use Prim.Native.Nat.{ℕ, zero, suc}
 use mathlib.Core.Bool.{false}
-use Rattle.basics.proofs.Choice.{split, compare}
+use Rattle.basics.proofs.Choice.{split}
 use Rattle.job.specs.Job.{Job}
 use Rattle.machine.specs.Memory.{fresh-memory}
 use Rattle.machine.specs.Table.{row-of, ended}

@@ -27,5 +27,5 @@ pub fn explained(job: &Job, log: &Log, facts: &Facts, report: &[u8]) -> Result<S
     let report = Report::of(report)?;
     explains::operations(job, facts, &report)?;
     explains::record(job, facts, &report)?;
-    Ok(Seen::of(log, facts, &report))
+    Ok(Seen::of(job, log, facts, &report))
 }

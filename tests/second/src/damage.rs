@@ -2,7 +2,7 @@
 
 use crate::file::{BLOCK, BLOCKS, PAYLOAD, SUMMED, seal_sums, sealed};
 use crate::generate::Draft;
-use crate::job::{HEADER, OPERATIONS, PROCESSES, RECORD, STEPS};
+use crate::job::{DROP, HEADER, OPERATIONS, PROCESSES, RECORD, STEPS};
 use crate::random::Random;
 
 /// One fault: the number of its refusal and what is done.
@@ -65,6 +65,16 @@ fn from(low: u8, random: &mut Random) -> u8 {
     if random.chance(2) { low } else { random.between(usize::from(low), 255) as u8 }
 }
 
+/// An entry whose process, without the 128 of a drop, the job has not.
+fn no_entry(processes: u8, random: &mut Random) -> u8 {
+    let process = match random.below(4) {
+        0 | 1 => processes,
+        2 => DROP - 1,
+        _ => random.between(usize::from(processes), usize::from(DROP) - 1) as u8,
+    };
+    if random.chance(2) { process } else { DROP + process }
+}
+
 /// A fault with the given number, for the file or the stream of a draft; none if the draft has no place for it.
 pub fn fault(number: u32, draft: &Draft, random: &mut Random) -> Option<Fault> {
     let length = draft.stream().len();
@@ -88,7 +98,7 @@ pub fn fault(number: u32, draft: &Draft, random: &mut Random) -> Option<Fault> {
         10 => record_change(draft, random),
         11 if !draft.schedule.is_empty() => {
             let entry = HEADER + RECORD * draft.records.len() + random.below(draft.schedule.len());
-            Change::Byte(entry, from(draft.processes, random))
+            Change::Byte(entry, no_entry(draft.processes, random))
         }
         12 if length < blocks * PAYLOAD => Change::Byte(random.between(length, blocks * PAYLOAD - 1), from(1, random)),
         _ => return None,

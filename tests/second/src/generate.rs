@@ -1,5 +1,6 @@
 //! Random and adversarial jobs. A seed fixes a job: its style, sizes, operations and order of steps.
 
+pub mod drops;
 pub mod order;
 
 use crate::job::{OPERATIONS, PROCESSES, Record, STEPS};
@@ -60,9 +61,13 @@ pub enum Style {
     ManyOperations,
     NoSteps,
     AllSteps,
+    FewDrops,
+    ManyDrops,
+    PowerCuts,
+    CutOff,
 }
 
-pub const STYLES: [Style; 17] = [
+pub const STYLES: [Style; 21] = [
     Style::Uniform,
     Style::Weighted,
     Style::Lockstep,
@@ -80,6 +85,10 @@ pub const STYLES: [Style; 17] = [
     Style::ManyOperations,
     Style::NoSteps,
     Style::AllSteps,
+    Style::FewDrops,
+    Style::ManyDrops,
+    Style::PowerCuts,
+    Style::CutOff,
 ];
 
 /// The style of a seed: seeds go round the styles.
@@ -107,6 +116,7 @@ pub fn job(seed: u64) -> Draft {
     let mut draft = Draft { kind, processes, records, schedule: vec![] };
     let order = Order::of(style, &mut random);
     draft.schedule = order.schedule(&draft, steps, &mut random);
+    drops::put_into(&mut draft.schedule, style, processes, &mut random);
     draft
 }
 

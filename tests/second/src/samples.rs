@@ -1,11 +1,12 @@
-//! Sample jobs: the traces of document 01, as document 02 has them, with their texts, written out by hand, the jobs that docs/ shows, and a
-//! full-size hour of a flood.
+//! Sample jobs: the traces of document 01, as document 02 has them, and jobs with drops, with their texts, written out by hand, the jobs that
+//! docs/ shows, and a full-size hour of a flood.
 
+pub mod drops;
 pub mod flood;
 
 use crate::generate::{Draft, put, take, turns};
 
-/// A job and the report that the papers give for it.
+/// A job and the report that the papers give for it, or that follows from them by hand.
 pub struct Trace {
     pub name: &'static str,
     pub draft: Draft,
@@ -171,9 +172,10 @@ fn stack_traces() -> Vec<Trace> {
     ]
 }
 
-/// All traces of the papers.
+/// All jobs that have a text.
 pub fn traces() -> Vec<Trace> {
     let mut traces = vec![listing(), fifth(), halves(), below_datum()];
+    traces.extend([drops::put_dropped(), drops::take_dropped(), drops::nothing_dropped()]);
     traces.extend(short_traces());
     traces.extend(stack_traces());
     traces
@@ -186,6 +188,9 @@ pub fn all() -> Vec<(&'static str, Draft)> {
     samples.extend(met());
     samples.push(("halves", halves().draft));
     samples.push(("below-datum", below_datum().draft));
+    samples.push(("drop-put", drops::put_dropped().draft));
+    samples.push(("drop-take", drops::take_dropped().draft));
+    samples.push(("drop-idle", drops::nothing_dropped().draft));
     samples.push(("smallest", smallest()));
     samples
 }

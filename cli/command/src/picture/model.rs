@@ -1,14 +1,15 @@
-//! What the page's script draws from: the report taken apart, as JSON.
+//! What the page's script draws from, as JSON: the report taken apart, with the steps in which operations were dropped.
 
 use crate::reading;
+use pigwazet::Job;
 use pigwazet::report::{Action, Effect, Ending, Line, Operation, Run};
 
-pub fn json(name: &str, run: &Run) -> String {
+pub fn json(name: &str, job: &Job, run: &Run) -> String {
     let processes = run.operations.iter().map(|operation| operation.process + 1).max().unwrap_or_default();
-    let ends = run.operations.iter().flat_map(|operation| operation.first.max(operation.last));
+    let ends = run.operations.iter().flat_map(|operation| operation.first.max(operation.last).max(operation.dropped_at(job)));
     let steps = ends.chain(run.record.iter().map(|line| line.at)).max().unwrap_or_default();
     let fates = reading::readings(run).filter_map(|(item, _)| {
-        let lines = reading::fate(run, item)?.iter().map(|line| string(line)).collect();
+        let lines = reading::fate(job, run, item)?.iter().map(|line| string(line)).collect();
         Some((item.to_string(), array(lines)))
     });
     object([
@@ -17,7 +18,7 @@ pub fn json(name: &str, run: &Run) -> String {
         ("end", string(reading::end(run.kind))),
         ("processes", processes.to_string()),
         ("steps", steps.to_string()),
-        ("operations", array(run.operations.iter().map(operation).collect())),
+        ("operations", array(run.operations.iter().map(|own| operation(job, own)).collect())),
         ("record", array(run.record.iter().map(line).collect())),
         ("left", numbers(&run.left)),
         ("leftLine", string(run.left_line)),
@@ -25,7 +26,7 @@ pub fn json(name: &str, run: &Run) -> String {
     ])
 }
 
-fn operation(operation: &Operation) -> String {
+fn operation(job: &Job, operation: &Operation) -> String {
     let mut fields = vec![("number", operation.number.to_string()), ("process", operation.process.to_string())];
     match operation.action {
         Action::Put(value) => fields.extend([("action", string("put")), ("value", value.to_string())]),
@@ -33,10 +34,12 @@ fn operation(operation: &Operation) -> String {
     }
     fields.extend(operation.first.map(|step| ("first", step.to_string())));
     fields.extend(operation.last.map(|step| ("last", step.to_string())));
+    fields.extend(operation.dropped_at(job).map(|step| ("dropped", step.to_string())));
     let ending = match operation.ending {
         Ending::Done => "done",
         Ending::Empty => "empty",
         Ending::Open => "open",
+        Ending::Dropped => "dropped",
         Ending::Waiting => "waiting",
         Ending::Item(item, value) => {
             fields.extend([("item", item.to_string()), ("value", value.to_string())]);
@@ -90,6 +93,12 @@ fn string(text: &str) -> String {
 #[cfg(test)]
 mod tests {
     use super::*;
+    use pigwazet::Kind;
+
+    /// A job with this schedule; what else there is to tell is in its report.
+    fn job(schedule: &[u8]) -> Job {
+        Job { kind: Kind::Queue, processes: 2, operations: vec![], schedule: schedule.to_vec() }
+    }
 
     #[test]
     fn strings_are_escaped() {
@@ -101,7 +110,7 @@ mod tests {
         let run = Run::of(
             "object queue\nop 1 process 1 put -2 first 1 last - open\nop 2 process 0 take first - last - waiting\nleft 0\n",
         );
-        let json = json("a.job", &run.unwrap());
+        let json = json("a.job", &job(&[1]), &run.unwrap());
         let expected = concat!(
             r#"{"name":"a.job","object":"queue","end":"front","processes":2,"steps":1,"operations":["#,
             r#"{"number":1,"process":1,"action":"put","value":-2,"first":1,"ending":"open","line":"op 1 process 1 put -2 first 1 last - open"},"#,
@@ -113,9 +122,23 @@ mod tests {
     }
 
     #[test]
+    fn a_dropped_operation_has_the_step_of_its_drop() {
+        let report = "object queue\nop 1 process 0 put 50 first 3 last - dropped\nat 5 put 1\nleft 1 1\n";
+        // a drop with nothing begun, one by another process, one that counts, one with nothing begun again
+        let json = json("a.job", &job(&[128, 129, 0, 0, 0, 129, 128, 128]), &Run::of(report).unwrap());
+        let operation =
+            r#"{"number":1,"process":0,"action":"put","value":50,"first":3,"dropped":7,"ending":"dropped","line":"op 1 "#;
+        let fate = concat!(
+            r#"["Reading 1: 50 cm, put by operation 1 of process 0 (begun at step 3, dropped at step 7).","#,
+            r#""The record has it coming into the queue at step 5, before its put was dropped.","#
+        );
+        assert!(json.contains(r#""steps":7,"#) && json.contains(operation) && json.contains(fate), "{json}");
+    }
+
+    #[test]
     fn a_linked_stack_is_listed_from_the_top() {
         let report = "object linked\nop 1 process 0 put 50 first 1 last - open\nat 4 put 1\nleft 1 1\n";
-        let json = json("a.job", &Run::of(report).unwrap());
+        let json = json("a.job", &job(&[0; 4]), &Run::of(report).unwrap());
         let begins = r#"{"name":"a.job","object":"linked stack","end":"top","processes":1,"steps":4,"#;
         let ends = concat!(
             r#""left":[1],"leftLine":"left 1 1","fates":{"1":["Reading 1: 50 cm, put by operation 1 of process 0 (open since step 1).","#,

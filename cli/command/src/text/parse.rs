@@ -3,7 +3,7 @@
 use crate::names::excerpt;
 use crate::words::{either, grouped};
 use pigwazet::limits::{OPERATIONS, PROCESSES, STEPS};
-use pigwazet::{Action, Job, Kind, Operation};
+use pigwazet::{Action, Job, Kind, Operation, Turn};
 use std::fmt;
 use std::ops::RangeInclusive;
 
@@ -143,7 +143,7 @@ impl Draft {
     }
 
     fn take_operation(&mut self, word: &str, words: &mut Words) -> Result<(), Wrong> {
-        let process = self.process(words)?;
+        let process = self.process(words, "")?;
         let action = if word == "put" {
             Action::Put(words.number("a stage in mm", i64::from(i16::MIN)..=i64::from(i16::MAX))? as i16)
         } else {
@@ -156,32 +156,37 @@ impl Draft {
         Ok(())
     }
 
-    /// Processes, each alone or with `x` and how often.
+    /// Turns, each alone or with `x` and how often.
     fn take_order(&mut self, words: &mut Words) -> Result<(), Wrong> {
         let mut alone = false;
         loop {
-            let more = if alone { ", or x and how often" } else { "" };
-            let process = self.process(words).map_err(|Wrong { found, allowed }| Wrong { found, allowed: allowed + more })?;
+            let turn = self.turn(words, if alone { ", or drop and one, or x and how often" } else { ", or drop and one" })?;
             alone = !words.next_is("x");
             let count = if alone { 1 } else { words.number("how often", 1..=STEPS as i64)? as usize };
             if self.schedule.len() + count > STEPS {
                 let found = format!("step {}", grouped(self.schedule.len() + count));
                 return Err(Wrong::new(found, format!("at most {} steps in all orders together", grouped(STEPS))));
             }
-            self.schedule.extend(std::iter::repeat_n(process, count));
+            self.schedule.extend(std::iter::repeat_n(turn.entry(), count));
             if words.rest.peek().is_none() {
                 return Ok(());
             }
         }
     }
 
-    /// A process of the job.
-    fn process(&mut self, words: &mut Words) -> Result<u8, Wrong> {
+    /// A process, or `drop` and one.
+    fn turn(&mut self, words: &mut Words, more: &str) -> Result<Turn, Wrong> {
+        if words.next_is("drop") { self.process(words, "").map(Turn::Drops) } else { self.process(words, more).map(Turn::Acts) }
+    }
+
+    /// A process of the job; `more` is what else may stand there.
+    fn process(&mut self, words: &mut Words, more: &str) -> Result<u8, Wrong> {
         let Some(processes) = self.processes else {
             self.processes = Some(PROCESSES as u8);
             return Err(Wrong::new("no line of processes yet", "'processes' and how many, before the operations and orders"));
         };
-        words.number("a process", 0..=i64::from(processes) - 1).map(|process| process as u8)
+        let process = words.number("a process", 0..=i64::from(processes) - 1);
+        process.map(|process| process as u8).map_err(|Wrong { found, allowed }| Wrong { found, allowed: allowed + more })
     }
 
     fn job(self) -> Result<Job, Wrong> {

@@ -1,10 +1,10 @@
 //! The one form in which a job is printed as text.
 
-use pigwazet::{Action, Job, Operation};
+use pigwazet::{Action, Job, Operation, Turn};
 
-/// Terms in an order line: a process, or a process and how often.
+/// Terms in an order line: a turn, or a turn and how often.
 const TERMS: usize = 16;
-/// A process is repeated in a term from this many steps on.
+/// A turn is repeated in a term from this many steps on.
 const REPEATED: usize = 3;
 /// Comments stand behind this column.
 const COLUMN: usize = 16;
@@ -42,21 +42,25 @@ fn steps_told(from: usize, to: usize) -> String {
     if from == to { format!("step {from}") } else { format!("steps {from} to {to}") }
 }
 
-/// The schedule as processes, each with how often it steps in a row; few steps in a row are written out.
-fn terms(schedule: &[u8]) -> Vec<(u8, usize)> {
+/// The schedule as turns, each with how often it comes in a row; few in a row are written out.
+fn terms(schedule: &[u8]) -> Vec<(Turn, usize)> {
     let mut terms = vec![];
     for run in schedule.chunk_by(|one, next| one == next) {
         if run.len() < REPEATED {
-            terms.extend(run.iter().map(|&process| (process, 1)));
+            terms.extend(run.iter().map(|&entry| (Turn::of(entry), 1)));
         } else {
-            terms.push((run[0], run.len()));
+            terms.push((Turn::of(run[0]), run.len()));
         }
     }
     terms
 }
 
-fn term(&(process, count): &(u8, usize)) -> String {
-    if count == 1 { process.to_string() } else { format!("{process} x {count}") }
+fn term(&(turn, count): &(Turn, usize)) -> String {
+    let words = match turn {
+        Turn::Acts(process) => process.to_string(),
+        Turn::Drops(process) => format!("drop {process}"),
+    };
+    if count == 1 { words } else { format!("{words} x {count}") }
 }
 
 #[cfg(test)]
@@ -78,6 +82,15 @@ take 1            # operation 2
 order 0 0 1 x 4 0  # steps 1 to 7
 ";
         assert_eq!(super::job(&job), text);
+    }
+
+    #[test]
+    fn drops_are_turns() {
+        let take = Operation { process: 1, action: Action::Take };
+        let schedule = vec![1, 129, 128, 128, 128, 0, 0, 0, 129, 129, 1];
+        let job = Job { kind: Kind::Queue, processes: 2, operations: vec![take], schedule };
+        let text = super::job(&job);
+        assert!(text.ends_with("\norder 1 drop 1 drop 0 x 3 0 x 3 drop 1 drop 1 1  # steps 1 to 11\n"), "{text}");
     }
 
     #[test]

@@ -3,7 +3,7 @@
 use crate::input::{MOST, looks_like_text};
 use crate::words::{counted, grouped};
 use pigwazet::limits::{BLOCK, FILE, HEADER, OPERATIONS, PAYLOAD, PROCESSES, RECORD, STEPS};
-use pigwazet::{Kind, Refusal};
+use pigwazet::{Kind, Refusal, Turn};
 
 /// The part of a job file that decided.
 #[derive(Clone, Copy, PartialEq, Eq, PartialOrd, Ord, Debug)]
@@ -213,10 +213,15 @@ fn record(stream: &Stream) -> Option<Decided> {
 fn entry(stream: &Stream) -> Option<Decided> {
     let processes = stream.processes();
     let schedule = &stream.0[stream.schedule()..stream.length()];
-    let (index, process) = schedule.iter().enumerate().find(|&(_, &process)| process >= processes)?;
+    let mut turns = schedule.iter().map(|&entry| Turn::of(entry)).enumerate();
+    let (index, turn) = turns.find(|(_, turn)| turn.process() >= processes)?;
     let place = Place::Entry { step: index + 1, byte: stream.schedule() + index };
+    let found = match turn {
+        Turn::Acts(process) => format!("process {process}"),
+        Turn::Drops(process) => format!("{}, a drop by process {process}", turn.entry()),
+    };
     let remedy = format!("the job's processes are 0 to {}: the logger scheduled one that the job has not", processes - 1);
-    Some(Decided { place, found: format!("process {process}"), remedy })
+    Some(Decided { place, found, remedy })
 }
 
 fn padding(stream: &Stream) -> Option<Decided> {

@@ -4,7 +4,8 @@
 use second::file::sealed;
 use second::generate::order::Order;
 use second::generate::{self, Draft};
-use second::job::{OPERATIONS, STEPS};
+use second::job::{DROP, OPERATIONS, STEPS};
+use second::random::Random;
 use second::speed::shapes;
 use std::io::Write;
 use std::os::unix::fs::PermissionsExt;
@@ -29,6 +30,16 @@ pub fn samples() -> Vec<(String, Vec<u8>)> {
 /// The job of a seed, and its file; seeds go round the styles of jobs.
 pub fn generated(seed: u64) -> (Draft, Vec<u8>) {
     let draft = generate::job(seed);
+    let file = sealed(&draft.stream());
+    (draft, file)
+}
+
+/// The job of a seed with drops in place of some of its steps, and its file.
+pub fn with_drops(seed: u64) -> (Draft, Vec<u8>) {
+    let mut draft = generate::job(seed);
+    let mut random = Random::new(seed);
+    let one_in = random.between(2, 30);
+    draft.schedule.iter_mut().filter(|_| random.chance(one_in)).for_each(|entry| *entry |= DROP);
     let file = sealed(&draft.stream());
     (draft, file)
 }

@@ -89,6 +89,7 @@ fn ending(words: &mut Words) -> Option<Ending> {
         "done" => Ending::Done,
         "empty" => Ending::Empty,
         "open" => Ending::Open,
+        "dropped" => Ending::Dropped,
         "waiting" => Ending::Waiting,
         "item" => {
             let item = words.number()?;

@@ -1,5 +1,5 @@
 -- `job::process_of` meets its contract. Assumes nothing.
-use mathlib.Core.Path.{sym, ap, _∙_}
+use mathlib.Core.Path.{sym, ap}
 use borrow.Author.Needs.{needs}
 use Rattle.job.specs.Slot.{process-of}
 use Rattle.job.proofs.process_of.Statement.{statement}

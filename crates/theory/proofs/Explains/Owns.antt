@@ -4,7 +4,7 @@ use mathlib.Core.Path.{_≡_, refl, sym, ap, subst, subst₂, _∙_}
 use mathlib.Core.Logic.{_≢_, _⊎_, inl, inr}
 use Prim.Native.Nat.{ℕ, zero, suc, _≤_}
 use mathlib.Core.Bool.{true, not, and-eq-true-iff}
-use mathlib.Core.List.{List·Memᴰ, List·Memᴰ·head, List·Memᴰ·eq-of-singleton}
+use mathlib.Core.List.{[], List·Memᴰ, List·Memᴰ·head, List·Memᴰ·eq-of-singleton}
 use native.Mathlib.Omega.{arith}
 use Rattle.basics.specs.Choice.{same}
 use Rattle.basics.proofs.Choice.{equal-same}
@@ -16,10 +16,11 @@ use Rattle.machine.specs.Notes.{Answer}
 use Rattle.machine.specs.Journal.{item-of, made, joins, first, last, answer, start, link, join, taken}
 use Rattle.machine.specs.Effects.{takers, takes-at, effect}
 use Rattle.machine.specs.Effects.Effect.{stands}
+use Rattle.machine.specs.Record.{line-at}
 use Rattle.machine.specs.Explained.{members, IsOperation}
 use Rattle.machine.proofs.Searches.{earliest-meets}
 use Rattle.machine.proofs.Stamps.{link-le, start-le, join-le, taken-none}
-use Rattle.machine.proofs.Effected.{Effected, effected, MayLine, effect-event, link-step, start-step, taker-in, taker-out, effect-of-put}
+use Rattle.machine.proofs.Effected.{Effected, effected, MayLine, effect-event, link-step, start-step, taker-in, taker-out, effect-of-put, line-without-effect}
 use Rattle.machine.proofs.Effected.Effected.{by-put, by-take, by-empty, by-none}
 use Rattle.theory.proofs.Course.{Course, PassesIn, ActsIn, passes-event}
 use Rattle.theory.proofs.Deeds.{deeds}
@@ -41,6 +42,12 @@ maker-of-line c (suc s) low m = go (c .step s)
 
 maker-of-effect : {kind : Kind} (c : Course kind) (k s o : ℕ) (line : Line) → 1 ≤ s → effect kind (c .log) (c .count) k o ≡ stands s line → IsOperation (c .count) (c .log s .by)
 maker-of-effect {kind} c k s o line low e = maker-of-line c s low (effect-event kind (c .log) (c .count) k s o line low e)
+
+-- so a step that nobody makes has no line
+pub nobody-no-line : {kind : Kind} (c : Course kind) (k s : ℕ) → 1 ≤ s → c .log s .by ≡ 0 → line-at kind (c .log) (c .count) k s ≡ []
+nobody-no-line {kind} c k s low nobody =
+    line-without-effect kind (c .log) (c .count) k s
+    (λ line e. let maker : 1 ≤ c .log s .by = maker-of-effect c k s (c .log s .by) line low e .from-one in omega arith)
 
 -- the effect of a member of a line is that line
 pub record Member {kind : Kind} (c : Course kind) (k s : ℕ) (line : Line) (o : ℕ) : Type 0 where

@@ -3,11 +3,11 @@
 use mathlib.Core.Path.{_≡_, refl, sym, ap, subst, _∙_}
 use mathlib.Core.Logic.{_≢_, _⊎_, inl, inr}
 use Prim.Native.Nat.{ℕ, zero, suc, _≤_, _<_}
-use mathlib.Core.Bool.{Bool, true, false, not, true≢false, and-eq-true-iff}
+use mathlib.Core.Bool.{true, not, true≢false, and-eq-true-iff}
 use native.Mathlib.Omega.{arith}
 use Rattle.basics.specs.Choice.{same}
 use Rattle.basics.specs.Maps.{upd}
-use Rattle.basics.proofs.Choice.{both, split, compare, pick-then, pick-elim, same-equal, equal-same, unequal-same}
+use Rattle.basics.proofs.Choice.{split, compare, pick-elim, same-equal, equal-same, unequal-same}
 use Rattle.basics.proofs.Maps.{upd-here, upd-there}
 use Rattle.job.specs.Job.{Job}
 use Rattle.machine.specs.declared.Place.{Place}
@@ -16,13 +16,12 @@ use Rattle.machine.specs.Run.{before, operation-after, row-after, fresh-state, 
 use Rattle.machine.specs.Notes.{is-answer, idle, acted, note}
 use Rattle.machine.specs.Journal.{made, ends, first, last}
 use Rattle.machine.specs.Drops.{dropped, drop}
-use Rattle.machine.specs.Explained.{IsOperation}
 use Rattle.machine.proofs.Searches.{earliest-meets}
-use Rattle.machine.proofs.Stamps.{first-zero, first-other, first-new, first-stays, first-le, drop-le, drop-drops, drop-stays}
+use Rattle.machine.proofs.Stamps.{first-zero, first-other, first-new, first-stays, first-le, drop-le, drop-drops}
 use Rattle.machine.proofs.Slots.{answers-at-end}
 use Rattle.machine.proofs.Turns.Locals.{reaches, local-after}
 use Rattle.theory.proofs.Operations.Locals.{memory, local}
-use Rattle.theory.proofs.Operations.Hands.{place-of, InHand, next-place, next-after, Acting, Dropping, Idling, OneStep, one-step, by-own, by-nobody, place-moved, place-ended, place-dropped}
+use Rattle.theory.proofs.Operations.Hands.{place-of, InHand, next-place, next-after, Acting, Dropping, OneStep, one-step, by-own, by-nobody, place-moved, place-ended, place-dropped}
 use Rattle.theory.proofs.Operations.Hands.OneStep.{idles, drops, acts}
 
 -- the number of the operation in a process's hand
@@ -133,6 +132,14 @@ module _ (j : Job) where
       by-step (idles i) = absurd (some (sym e ∙ i .drops-none))
       by-step (drops d) = by-one d (sym (d .drops) ∙ e)
       by-step (acts a) = absurd (some (sym e ∙ a .drops-none))
+
+  -- nobody makes the step that drops an operation
+  pub by-nobody-at : (k o : ℕ) → o ≢ 0 → drop j k o ≢ 0 → note j (drop j k o) .by ≡ 0
+  by-nobody-at k o some found = go (drop j k o) found (drop-drops j o k found)
+    where
+      go : (d : ℕ) → d ≢ 0 → dropped j d ≡ o → note j d .by ≡ 0
+      go zero n is = absurd (n refl)
+      go (suc d) n is = is-dropped d o some is .nobody
 
   -- an operation is dropped once
   pub dropped-once : (k o : ℕ) → o ≢ 0 → dropped j (suc k) ≡ o → drop j k o ≡ 0

@@ -5,6 +5,8 @@ pub const OPERATIONS: usize = 256;
 pub const STEPS: usize = 16_384;
 pub const HEADER: usize = 6;
 pub const RECORD: usize = 4;
+/// What an entry of the schedule has on top of its process if it is a drop.
+pub const DROP: u8 = 128;
 
 /// The number of a refusal, as the table of document 01 gives it.
 pub type Refusal = u32;
@@ -36,6 +38,25 @@ pub fn action(record: &Record) -> Action {
 /// In mm: signed, in two's complement.
 pub fn value(record: &Record) -> i32 {
     i32::from(i16::from_be_bytes([record[2], record[3]]))
+}
+
+/// What an entry of the schedule has its process do: act, or drop the operation that it has begun.
+#[derive(Clone, Copy, PartialEq, Eq, Debug)]
+pub enum Slot {
+    Acts(u8),
+    Drops(u8),
+}
+
+pub fn slot(entry: u8) -> Slot {
+    if entry < DROP { Slot::Acts(entry) } else { Slot::Drops(entry - DROP) }
+}
+
+impl Slot {
+    pub fn process(self) -> u8 {
+        match self {
+            Slot::Acts(process) | Slot::Drops(process) => process,
+        }
+    }
 }
 
 /// The first six bytes, all in range.
@@ -94,7 +115,7 @@ impl<'a> Job<'a> {
         if records.iter().any(|record| !in_range(record, header.processes)) {
             return Err(10);
         }
-        if schedule.iter().any(|&entry| entry >= header.processes) {
+        if schedule.iter().any(|&entry| slot(entry).process() >= header.processes) {
             return Err(11);
         }
         Ok(Job { kind: header.kind, processes: header.processes, records, schedule })

@@ -1,6 +1,6 @@
 //! The run of a job: eight places over one shared object, one step of one process at a time, and a journal of what came of it.
 
-use crate::job::{self, Action, Job, OPERATIONS, PROCESSES};
+use crate::job::{self, Action, Job, OPERATIONS, PROCESSES, Slot};
 use crate::watch::{Row, Watch};
 
 /// Operations count from 1 and node i is operation i's, so 0 is free to say none.
@@ -35,6 +35,8 @@ pub enum Then {
 pub struct Journal {
     pub first: [u16; CELLS],
     pub last: [u16; CELLS],
+    /// The step in which an operation was dropped.
+    pub dropped: [u16; CELLS],
     pub answer: [Answer; CELLS],
     /// The latest T1 or R1 of a take, or the W2 that ended it.
     pub start: [u16; CELLS],
@@ -49,7 +51,8 @@ pub struct Journal {
 impl Journal {
     fn fresh() -> Journal {
         let none = [0; CELLS];
-        Journal { first: none, last: none, answer: [Answer::Empty; CELLS], start: none, change: none, item: none, taken: none }
+        let answer = [Answer::Empty; CELLS];
+        Journal { first: none, last: none, dropped: none, answer, start: none, change: none, item: none, taken: none }
     }
 }
 
@@ -98,9 +101,17 @@ impl<'a, O: Object> Machine<'a, O> {
         (place.operation != NONE).then_some((place.operation, place.row))
     }
 
-    /// Makes step number `step`, a step of `process`.
+    /// Makes step number `step`, whose entry in the schedule is `entry`.
     #[inline(always)]
-    pub fn step(&mut self, step: u16, process: u8, watch: &mut impl Watch) {
+    pub fn step(&mut self, step: u16, entry: u8, watch: &mut impl Watch) {
+        match job::slot(entry) {
+            Slot::Acts(process) => self.act(step, process, watch),
+            Slot::Drops(process) => self.drop(step, process, watch),
+        }
+    }
+
+    #[inline(always)]
+    fn act(&mut self, step: u16, process: u8, watch: &mut impl Watch) {
         let place = &mut self.places[usize::from(process)];
         if place.operation == NONE {
             watch.step(step, process, None);
@@ -121,6 +132,19 @@ impl<'a, O: Object> Machine<'a, O> {
             }
         }
     }
+
+    /// The process drops its begun operation, which keeps what it has done, and stands before its next; with none begun it stays.
+    fn drop(&mut self, step: u16, process: u8, watch: &mut impl Watch) {
+        let place = &mut self.places[usize::from(process)];
+        let own = usize::from(place.operation);
+        if place.operation == NONE || self.journal.first[own] == 0 {
+            watch.dropping(step, process, None);
+            return;
+        }
+        watch.dropping(step, process, Some(place.operation));
+        self.journal.dropped[own] = step;
+        stand_before::<O>(place, self.following[own], self.records);
+    }
 }
 
 /// Puts a place before the first row of an operation, or at rest if there is none.
@@ -134,8 +158,8 @@ fn stand_before<O: Object>(place: &mut Place, operation: u16, records: &[job::Re
 /// Runs a whole schedule.
 pub fn run<'a, O: Object>(job: &Job<'a>, watch: &mut impl Watch) -> Machine<'a, O> {
     let mut machine = Machine::fresh(job.records);
-    for (&process, step) in job.schedule.iter().zip(1..) {
-        machine.step(step, process, watch);
+    for (&entry, step) in job.schedule.iter().zip(1..) {
+        machine.step(step, entry, watch);
     }
     machine
 }

@@ -68,6 +68,8 @@ fn operation(text: &mut Text, number: usize, records: &[Record], journal: &Journ
     step(text, journal.last[number]);
     if journal.first[number] == 0 {
         text.words(" waiting\n");
+    } else if journal.dropped[number] != 0 {
+        text.words(" dropped\n");
     } else if journal.last[number] == 0 {
         text.words(" open\n");
     } else {

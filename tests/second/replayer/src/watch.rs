@@ -42,6 +42,8 @@ pub trait Watch {
     fn aim(&mut self, from: u16, to: u16);
     /// The step ended its operation.
     fn end(&mut self, answer: Answer);
+    /// A step that is a drop: its number, its process, and the operation dropped, unless none is begun and the step is idle.
+    fn dropping(&mut self, step: u16, process: u8, operation: Option<u16>);
 }
 
 pub struct Nobody;
@@ -51,6 +53,7 @@ impl Watch for Nobody {
     fn access(&mut self, _: Cell, _: u16, _: Option<u16>) {}
     fn aim(&mut self, _: u16, _: u16) {}
     fn end(&mut self, _: Answer) {}
+    fn dropping(&mut self, _: u16, _: u8, _: Option<u16>) {}
 }
 
 /// A read of a cell.
@@ -85,10 +88,19 @@ pub struct Event {
     pub answer: Option<Answer>,
 }
 
-/// The acting steps of a run, in order, and the number of all its steps.
+/// A begun operation dropped, as it was seen.
+#[derive(Clone, Copy, Debug)]
+pub struct Drop {
+    pub step: u16,
+    pub process: u8,
+    pub operation: u16,
+}
+
+/// The acting steps of a run and its drops, each in order, and the number of all its steps.
 #[derive(Default)]
 pub struct Log {
     pub events: Vec<Event>,
+    pub drops: Vec<Drop>,
     pub steps: u16,
 }
 
@@ -112,5 +124,10 @@ impl Watch for Log {
 
     fn end(&mut self, answer: Answer) {
         self.events.last_mut().expect("an end without a step").answer = Some(answer);
+    }
+
+    fn dropping(&mut self, step: u16, process: u8, operation: Option<u16>) {
+        self.steps = step;
+        self.drops.extend(operation.map(|operation| Drop { step, process, operation }));
     }
 }

@@ -14,11 +14,13 @@ fn main() -> ExitCode {
     bench.group("traces that are proved, every outcome", outcomes::proved);
     bench.group("sample files", traces::samples);
     bench.group("limits of the paper", limits::paper);
+    bench.group("entries of a schedule, every one", limits::entries);
     bench.group("values, every one", values::every);
     for style in STYLES {
         bench.group(&format!("jobs, {style:?}"), |bench: &mut Bench| jobs::of_style(bench, style, JOBS, FIRST_SEED));
     }
     bench.group("every order of small jobs", every::schedules);
+    bench.group("every order of small jobs, with drops", every::drops);
     bench.group("steps, every row both ways", jobs::reached);
     bench.group("faults alone", faults::alone);
     bench.group("sums and numbers, block by block", faults::block_by_block);

@@ -4,7 +4,7 @@ use second::file::sealed;
 use second::generate::Draft;
 use second::generate::order::Order;
 use second::job::{OPERATIONS, STEPS};
-use second::speed::shapes::{ROTATION, acting, jobs};
+use second::speed::shapes::{ROTATION, acting, dropping, jobs};
 use second::speed::{self, Measured, Pair};
 use std::env;
 use std::process::ExitCode;
@@ -98,6 +98,17 @@ fn reading_and_writing(rounds: usize) {
     }
 }
 
+/// One entry in 16 is a drop.
+fn with_drops(rounds: usize) {
+    heading("Replay with drops, 256 operations on 8 processes");
+    for (kind, object) in OBJECTS {
+        let drafts = dropping(&jobs(kind, OPERATIONS, STEPS, &Order::Uniform));
+        row(&format!("{object}, random, with drops"), &drafts, &speed::replay(&files(&drafts), rounds));
+        let drafts = acting(&drafts);
+        row(&format!("{object}, random, with drops, acting steps only"), &drafts, &speed::replay(&files(&drafts), rounds));
+    }
+}
+
 /// Shorter schedules, with all operations and with as many as keep the work of a step the same.
 fn shorter(rounds: usize) {
     heading("Replay of shorter schedules, random");
@@ -121,6 +132,7 @@ fn main() -> ExitCode {
     };
     eprintln!("Both sides take turns, {rounds} rounds of {ROTATION} calls each; the best round of each side counts.");
     full_size(rounds);
+    with_drops(rounds);
     reading_and_writing(rounds);
     shorter(rounds);
     ExitCode::SUCCESS

@@ -47,12 +47,13 @@ fn centimetres(record: &Record) -> i32 {
 }
 
 fn ending(job: &Job, own: &Operation) -> Ending {
-    match (own.first, own.answer) {
-        (None, _) => Ending::Waiting,
-        (_, None) => Ending::Open,
-        (_, Some(Answer::Done)) => Ending::Done,
-        (_, Some(Answer::Empty)) => Ending::Empty,
-        (_, Some(Answer::Item(item))) => Ending::Item(item, centimetres(&job.records[usize::from(item) - 1])),
+    match (own.first, own.dropped, own.answer) {
+        (None, ..) => Ending::Waiting,
+        (_, Some(_), _) => Ending::Dropped,
+        (_, _, None) => Ending::Open,
+        (_, _, Some(Answer::Done)) => Ending::Done,
+        (_, _, Some(Answer::Empty)) => Ending::Empty,
+        (_, _, Some(Answer::Item(item))) => Ending::Item(item, centimetres(&job.records[usize::from(item) - 1])),
     }
 }
 
@@ -134,7 +135,8 @@ fn entries(job: &Job, report: &Report) -> Result<Vec<Option<Entry>>, String> {
 }
 
 /// "Every answered operation is in it exactly once, with its answer, at a step from its first to its last. An unanswered one is in
-/// it once exactly when it took effect, otherwise not at all, and never before its first step."
+/// it once exactly when it took effect, otherwise not at all, and never before its first step." Of a dropped one: "Its effect, if any,
+/// stands no later than the drop."
 fn present(own: usize, facts: &Facts, entries: &[Option<Entry>]) -> Result<(), String> {
     let operation = &facts.operations[own];
     let Some(entry) = entries[own] else {
@@ -144,7 +146,7 @@ fn present(own: usize, facts: &Facts, entries: &[Option<Entry>]) -> Result<(), S
     let answered = operation.answer.is_none_or(|answer| answer == entry.answer);
     ensure(answered, || format!("operation {own} is in the record with another answer"))?;
     let begun = operation.first.is_some_and(|first| first <= entry.at);
-    let not_over = operation.last.is_none_or(|last| entry.at <= last);
+    let not_over = operation.last.or(operation.dropped).is_none_or(|over| entry.at <= over);
     ensure(begun && not_over, || format!("operation {own} stands at {}, outside its steps", entry.at))
 }
 

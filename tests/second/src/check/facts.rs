@@ -5,7 +5,7 @@ use super::listing::{self, Read};
 use super::order::Order;
 use crate::job::{self, Job, Kind};
 use crate::machine::{Answer, CELLS};
-use crate::watch::{Cell, Event, Log, Row};
+use crate::watch::{Cell, Drop, Event, Log, Row};
 use std::iter;
 
 /// Of one operation: its steps, its answer, and what gives it an effect.
@@ -13,6 +13,8 @@ use std::iter;
 pub struct Operation {
     pub first: Option<u16>,
     pub last: Option<u16>,
+    /// The step that dropped it; it makes none after.
+    pub dropped: Option<u16>,
     pub answer: Option<Answer>,
     /// The latest T1, R1 or W2.
     pub start: Option<u16>,
@@ -26,9 +28,15 @@ pub struct Operation {
 }
 
 impl Operation {
-    /// "One that has not ended took effect exactly if it is a put whose changing step was made, or a stack take that is a member."
+    /// "One that has not ended took effect exactly if it is a put whose changing step was made, or a stack take that is a member." A
+    /// dropped one is "recorded by the same conditions as an open one".
     pub fn took_effect(&self) -> bool {
         self.answer.is_some() || self.change.is_some() || self.joined.is_some()
+    }
+
+    /// Of a dropped operation: the row that it would have run next.
+    pub fn dropped_before(&self) -> Option<Row> {
+        self.dropped.and(self.at)
     }
 
     fn note(&mut self, event: &Event) {
@@ -126,12 +134,27 @@ impl Facts {
         let operations = vec![Operation::default(); job.records.len() + 1];
         let mut facts = Facts { operations, taken: [None; CELLS], memory: Memory::fresh() };
         let mut order = Order::of(job);
+        let mut drops = log.drops.iter().peekable();
         for event in &log.events {
+            while let Some(drop) = drops.next_if(|drop| drop.step < event.step) {
+                facts.drop(job, &mut order, drop)?;
+            }
             if !order.take(job, event) || !facts.take(job, event) {
                 return Err(format!("the second replayer's steps are wrong: {event:?}"));
             }
         }
-        if order.ended(job) { Ok(facts) } else { Err("the second replayer's steps end too soon".to_string()) }
+        drops.try_for_each(|drop| facts.drop(job, &mut order, drop))?;
+        let ended = order.ended(job) && usize::from(log.steps) == job.schedule.len();
+        if ended { Ok(facts) } else { Err("the second replayer's steps end too soon".to_string()) }
+    }
+
+    /// Takes one drop: a begun operation, which has not ended, makes no step from here on. No memory changes.
+    fn drop(&mut self, job: &Job, order: &mut Order, drop: &Drop) -> Result<(), String> {
+        let right = order.drop(job, drop);
+        let own = &mut self.operations[usize::from(drop.operation)];
+        let begun = own.first.is_some() && own.last.is_none() && own.dropped.is_none();
+        own.dropped = Some(drop.step);
+        if right && begun { Ok(()) } else { Err(format!("the second replayer's drops are wrong: {drop:?}")) }
     }
 
     /// Takes one step; gives whether it is what the listing says.
@@ -139,7 +162,7 @@ impl Facts {
         let own = &mut self.operations[usize::from(event.operation)];
         let action = job::action(&job.records[usize::from(event.operation) - 1]);
         let row = own.at.unwrap_or(listing::first(job.kind, action));
-        let right = event.row == row && self.memory.take(event, own.read);
+        let right = own.dropped.is_none() && event.row == row && self.memory.take(event, own.read);
         let after = listing::after(event, own.read);
         own.at = after.ok();
         own.note(event);

@@ -8,6 +8,7 @@ pub enum Ending {
     Item(u16, i32),
     Empty,
     Open,
+    Dropped,
     Waiting,
 }
 
@@ -124,6 +125,7 @@ fn ending(words: &mut SplitWhitespace) -> Option<Ending> {
         "done" => Ending::Done,
         "empty" => Ending::Empty,
         "open" => Ending::Open,
+        "dropped" => Ending::Dropped,
         "waiting" => Ending::Waiting,
         "item" => {
             let item = number(words)?;

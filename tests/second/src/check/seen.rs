@@ -2,6 +2,7 @@
 
 use super::facts::Facts;
 use super::parse::{Effect, Report};
+use crate::job::{DROP, Job};
 use crate::watch::{CLEARED, Event, Log, ROWS, Row};
 
 /// Each count is of runs' steps or lines; `rows` is by row and by outcome.
@@ -15,22 +16,37 @@ pub struct Seen {
     pub open_takers: usize,
     pub open_puts: usize,
     pub idle_steps: usize,
+    pub dropped: Dropped,
+}
+
+/// Counts of dropped operations, and of drops with none begun.
+pub struct Dropped {
+    /// By the row that the operation would have run next.
+    pub before: [usize; ROWS],
+    pub takers: usize,
+    pub puts: usize,
+    pub idle: usize,
 }
 
 impl Default for Seen {
     fn default() -> Seen {
         let rows = [[0; 2]; ROWS];
-        Seen { rows, cleared_again: 0, shared_lines: 0, lines_of_eight: 0, open_takers: 0, open_puts: 0, idle_steps: 0 }
+        let dropped = Dropped { before: [0; ROWS], takers: 0, puts: 0, idle: 0 };
+        Seen { rows, cleared_again: 0, shared_lines: 0, lines_of_eight: 0, open_takers: 0, open_puts: 0, idle_steps: 0, dropped }
     }
 }
 
 impl Seen {
-    pub fn of(log: &Log, facts: &Facts, report: &Report) -> Seen {
+    pub fn of(job: &Job, log: &Log, facts: &Facts, report: &Report) -> Seen {
         let mut seen = Seen::default();
         for event in &log.events {
             seen.step(event);
         }
-        seen.idle_steps = usize::from(log.steps) - log.events.len();
+        seen.idle_steps = usize::from(log.steps) - log.events.len() - log.drops.len();
+        for row in facts.operations.iter().filter_map(|own| own.dropped_before()) {
+            seen.dropped.before[row as usize] += 1;
+        }
+        seen.dropped.idle = job.schedule.iter().filter(|&&entry| entry >= DROP).count() - log.drops.len();
         for line in &report.lines {
             seen.line(&line.effect, facts);
         }
@@ -45,13 +61,18 @@ impl Seen {
     }
 
     fn line(&mut self, effect: &Effect, facts: &Facts) {
-        let open = |own: &u16| facts.operations[usize::from(*own)].answer.is_none();
+        let dropped = |own: &u16| facts.operations[usize::from(*own)].dropped.is_some();
+        let open = |own: &u16| facts.operations[usize::from(*own)].answer.is_none() && !dropped(own);
         match effect {
-            Effect::Put(own) => self.open_puts += usize::from(open(own)),
+            Effect::Put(own) => {
+                self.open_puts += usize::from(open(own));
+                self.dropped.puts += usize::from(dropped(own));
+            }
             Effect::Take(_, takers) => {
                 self.shared_lines += usize::from(takers.len() > 1);
                 self.lines_of_eight += usize::from(takers.len() == 8);
                 self.open_takers += takers.iter().filter(|own| open(own)).count();
+                self.dropped.takers += takers.iter().filter(|own| dropped(own)).count();
             }
             Effect::Empty(_) => {}
         }
@@ -67,6 +88,7 @@ impl Seen {
         self.open_takers += other.open_takers;
         self.open_puts += other.open_puts;
         self.idle_steps += other.idle_steps;
+        self.dropped.add(&other.dropped);
     }
 
     /// Whether every row went both ways and every case of the record was met.
@@ -78,5 +100,23 @@ impl Seen {
             && self.open_takers > 0
             && self.open_puts > 0
             && self.idle_steps > 0
+            && self.dropped.all()
+    }
+}
+
+impl Dropped {
+    fn add(&mut self, other: &Dropped) {
+        for (own, more) in self.before.iter_mut().zip(&other.before) {
+            *own += more;
+        }
+        self.takers += other.takers;
+        self.puts += other.puts;
+        self.idle += other.idle;
+    }
+
+    /// Whether operations were dropped before every row, in the record and outside it. An operation begins before it is dropped, so those
+    /// before a first row are on their way back to it.
+    fn all(&self) -> bool {
+        self.before.iter().all(|&count| count > 0) && self.takers > 0 && self.puts > 0 && self.idle > 0
     }
 }

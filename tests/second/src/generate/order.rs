@@ -1,6 +1,7 @@
-//! Orders of steps: even, uneven and hostile ones.
+//! Orders of steps: even, uneven and hostile ones. One of them has drops.
 
 use super::{Draft, Style};
+use crate::job::DROP;
 use crate::linked::Linked;
 use crate::machine::{Machine, Object};
 use crate::queue::Queue;
@@ -20,6 +21,7 @@ pub enum Order {
     Gathered,
     HeldBack,
     Crowded,
+    CutOff,
 }
 
 impl Order {
@@ -36,6 +38,7 @@ impl Order {
             Style::Stalled => Order::Stalled,
             Style::Gathered => Order::Gathered,
             Style::HeldBack => Order::HeldBack,
+            Style::CutOff => Order::CutOff,
             _ => match random.below(8) {
                 0 => Order::Uniform,
                 1 => Order::Weighted,
@@ -62,14 +65,19 @@ impl Order {
             Order::Stalled => stalled(processes, steps, random),
             Order::Gathered => {
                 let walls = std::array::from_fn(|_| random.chance(4));
-                gathered_by_kind(draft, steps, walls, random)
+                gathered_by_kind(draft, steps, walls, None, random)
             }
             Order::HeldBack => {
                 let rows = changing_rows(draft.kind);
                 let held = std::array::from_fn::<_, 2, _>(|_| *random.pick(rows));
-                gathered_by_kind(draft, steps, walls(&held), random)
+                gathered_by_kind(draft, steps, walls(&held), None, random)
             }
-            Order::Crowded => gathered_by_kind(draft, steps, walls(changing_rows(draft.kind)), random),
+            Order::Crowded => gathered_by_kind(draft, steps, walls(changing_rows(draft.kind)), None, random),
+            Order::CutOff => {
+                let walls = std::array::from_fn(|_| random.chance(2));
+                let one_in = *random.pick(&[2, 4, 10]);
+                gathered_by_kind(draft, steps, walls, Some(one_in), random)
+            }
         }
     }
 }
@@ -146,17 +154,20 @@ fn walls(rows: &[Row]) -> [bool; ROWS] {
     walls
 }
 
-fn gathered_by_kind(draft: &Draft, steps: usize, walls: [bool; ROWS], random: &mut Random) -> Vec<u8> {
+/// Of those let through, one in so many, or none, drops its operation instead.
+type Cuts = Option<usize>;
+
+fn gathered_by_kind(draft: &Draft, steps: usize, walls: [bool; ROWS], cuts: Cuts, random: &mut Random) -> Vec<u8> {
     match draft.kind {
-        1 => gathered::<Queue>(draft, steps, walls, random),
-        2 => gathered::<Stack>(draft, steps, walls, random),
-        _ => gathered::<Linked>(draft, steps, walls, random),
+        1 => gathered::<Queue>(draft, steps, walls, cuts, random),
+        2 => gathered::<Stack>(draft, steps, walls, cuts, random),
+        _ => gathered::<Linked>(draft, steps, walls, cuts, random),
     }
 }
 
 /// Processes are gathered before certain rows and then let through in a random order, a few at a time: many hold the same old
 /// values when the first of them changes the memory.
-fn gathered<O: Object>(draft: &Draft, steps: usize, walls: [bool; ROWS], random: &mut Random) -> Vec<u8> {
+fn gathered<O: Object>(draft: &Draft, steps: usize, walls: [bool; ROWS], cuts: Cuts, random: &mut Random) -> Vec<u8> {
     let mut machine = Machine::<O>::fresh(&draft.records);
     let mut schedule = vec![];
     while schedule.len() < steps {
@@ -170,8 +181,10 @@ fn gathered<O: Object>(draft: &Draft, steps: usize, walls: [bool; ROWS], random:
             (false, false) if random.chance(20) => *random.pick(&waiting),
             _ => *random.pick(&running),
         };
-        schedule.push(choice);
-        machine.step(schedule.len() as u16, choice, &mut Nobody);
+        let cut = waiting.contains(&choice) && cuts.is_some_and(|one_in| random.chance(one_in));
+        let entry = if cut { DROP + choice } else { choice };
+        schedule.push(entry);
+        machine.step(schedule.len() as u16, entry, &mut Nobody);
     }
     schedule
 }

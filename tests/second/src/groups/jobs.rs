@@ -1,7 +1,7 @@
 //! Random jobs: write, read, replay and demand 3 on each, then a few random faults in its file and in its stream.
 
 use super::Bench;
-use crate::check::Seen;
+use crate::check::seen::{Dropped, Seen};
 use crate::damage;
 use crate::failure::{guarded, seeded};
 use crate::file::{FILE_LIMIT, sealed};
@@ -54,16 +54,19 @@ pub fn of_style(bench: &mut Bench, style: Style, count: usize, first: u64) -> Re
     Ok(count)
 }
 
-/// The jobs so far went through every row both ways and met every case of the record.
+/// The jobs so far went through every row both ways, dropped operations before every row and met every case of the record.
 pub fn reached(bench: &mut Bench) -> Result<usize, String> {
-    let Seen { rows, cleared_again, shared_lines, lines_of_eight, open_takers, open_puts, idle_steps } = &bench.seen;
+    let Seen { rows, cleared_again, shared_lines, lines_of_eight, open_takers, open_puts, idle_steps, dropped } = &bench.seen;
     println!(
         "  lines with several takers {shared_lines}, with eight {lines_of_eight}; open takers {open_takers}, open puts {open_puts}; \
          flags cleared again {cleared_again}"
     );
+    let Dropped { before, takers, puts, idle } = dropped;
+    let drops = before.iter().sum::<usize>();
+    println!("  dropped {drops}, of them takers {takers}, puts in the record {puts}; drops with none begun {idle}");
     if bench.seen.all() {
-        Ok(rows.as_flattened().iter().sum::<usize>() + idle_steps)
+        Ok(rows.as_flattened().iter().sum::<usize>() + idle_steps + drops)
     } else {
-        Err(format!("not all was met: {rows:?}"))
+        Err(format!("not all was met: {rows:?}; dropped before {before:?}"))
     }
 }

@@ -106,26 +106,31 @@ fn latest(log: &Log, event: &Event, row: Row) -> Option<u16> {
     log.events.iter().filter(own).last().map(|before| before.held)
 }
 
-/// The outcomes that the steps of a job meet, by the second replayer's log.
-fn met(stream: &[u8]) -> Result<Vec<Outcome>, String> {
+/// The outcomes that the steps of a job meet, by the second replayer's log, and how many operations it drops.
+fn met(stream: &[u8]) -> Result<(Vec<Outcome>, usize), String> {
     let job = Job::of_stream(stream).map_err(|number| format!("no job: {number}"))?;
     let (log, _) = check::logged(&job, &mut vec![0; REPORT]);
-    Ok(log.events.iter().map(|event| (event.row, way(&log, event))).collect())
+    Ok((log.events.iter().map(|event| (event.row, way(&log, event))).collect(), log.drops.len()))
 }
 
 pub fn proved(bench: &mut Bench) -> Result<usize, String> {
     let traces = proved::traces()?;
     let mut all = vec![];
+    let mut dropped = 0;
     for (trace, number) in traces.iter().zip(1..) {
         let (name, stream) = (format!("trace {number}"), trace.draft.stream());
         bench.compare.job(&stream).map_err(|why| format!("{name}: {why}"))?;
         report_is(bench, &name, &sealed(&stream), trace.expected.as_bytes())?;
-        all.extend(met(&stream)?);
+        let (outcomes, drops) = met(&stream)?;
+        all.extend(outcomes);
+        dropped += drops;
     }
     let missing: Vec<Outcome> = outcomes().filter(|outcome| !all.contains(outcome)).collect();
     let unrun: Vec<Row> = LISTINGS.iter().map(|&(row, _)| row).filter(|row| all.iter().all(|(run, _)| run != row)).collect();
     if outcomes().count() != OUTCOMES {
         Err(format!("the listings have {OUTCOMES} outcomes"))
+    } else if dropped == 0 {
+        Err(format!("in {} traces no operation is dropped", traces.len()))
     } else if missing.is_empty() && unrun.is_empty() {
         Ok(traces.len())
     } else {

@@ -1,7 +1,8 @@
 //! The jobs that are measured: of each shape as many as a rotation has, alike but for their seeds.
 
 use crate::generate::order::Order;
-use crate::generate::{Draft, put, take};
+use crate::generate::{Draft, drops, put, take};
+use crate::job::{Slot, slot};
 use crate::linked::Linked;
 use crate::machine::{Machine, Object};
 use crate::queue::Queue;
@@ -32,7 +33,7 @@ pub fn job(kind: u8, operations: usize, steps: usize, order: &Order, seed: u64) 
     draft
 }
 
-/// The same jobs without their idle steps.
+/// The same jobs without their idle steps; a drop with none begun is one.
 pub fn acting(drafts: &[Draft]) -> Vec<Draft> {
     let steps = |draft: &Draft| match draft.kind {
         1 => acting_steps::<Queue>(draft),
@@ -46,11 +47,29 @@ fn acting_steps<O: Object>(draft: &Draft) -> Vec<u8> {
     let mut machine = Machine::<O>::fresh(&draft.records);
     let mut acting = draft.schedule.clone();
     let mut step = 0;
-    acting.retain(|&process| {
-        let acts = machine.standing(process).is_some();
+    acting.retain(|&entry| {
+        let standing = machine.standing(slot(entry).process());
+        let begun = |(operation, _)| machine.journal.first[usize::from(operation)] != 0;
+        let acts = match slot(entry) {
+            Slot::Acts(_) => standing.is_some(),
+            Slot::Drops(_) => standing.is_some_and(begun),
+        };
         step += 1;
-        machine.step(step, process, &mut Nobody);
+        machine.step(step, entry, &mut Nobody);
         acts
     });
     acting
+}
+
+/// One entry in so many is a drop.
+const DROPS_ONE_IN: usize = 16;
+
+/// The same jobs with drops.
+pub fn dropping(drafts: &[Draft]) -> Vec<Draft> {
+    let mut random = Random::new(FIRST_SEED);
+    let mut dropping = drafts.to_vec();
+    for draft in &mut dropping {
+        drops::here_and_there(&mut draft.schedule, DROPS_ONE_IN, &mut random);
+    }
+    dropping
 }

@@ -30,7 +30,7 @@ function clear(why) {
 
 function markPicked(item) {
   const put = item === null ? undefined : index.puts.get(item).op, takers = new Set(item === null ? [] : takersOf(item));
-  for (const { op, node, label } of shapes.bars.concat(shapes.marks)) {
+  for (const { op, node, label } of shapes.bars.concat(shapes.cuts, shapes.marks)) {
     for (const shape of label ? [node, label] : [node]) {
       shape.classList.toggle("picked", op === put);
       shape.classList.toggle("taker", takers.has(op.number));
@@ -51,7 +51,7 @@ function remember(address) {
 function span(numbers) {
   const begun = numbers.map((n) => index.ops.get(n)).filter((op) => op.first !== undefined);
   if (begun.length === 0) return null;
-  const ends = begun.map((op) => op.last || (index.lines.get(op.number) || { at: op.first }).at);
+  const ends = begun.map((op) => endOf(op) || (index.lines.get(op.number) || { at: op.first }).at);
   return [Math.min(...begun.map((op) => op.first)), Math.max(...ends)];
 }
 

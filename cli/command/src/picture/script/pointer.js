@@ -11,14 +11,16 @@ function readingUnder(target) {
   return tied ? Number(tied.dataset.item) : undefined;
 }
 
-// The report's very lines: an operation's own and the record's, in that order for a bar.
+// The report's very lines: an operation's own and the record's, in that order for a bar; and when it was dropped, which no line tells.
 function linesUnder(target) {
   const op = opUnder(target), tied = target.closest(".tie");
   if (tied) return [index.takes.get(Number(tied.dataset.item)).line];
   if (!op) return [];
-  const lines = [op.line], line = index.lines.get(op.number);
-  if (line) lines.push(line.line);
-  return target.closest(".effect") ? lines.reverse() : lines;
+  const line = index.lines.get(op.number), effect = line ? [line.line] : [];
+  const drop = isDropped(op) ? ["dropped at step " + op.dropped] : [];
+  if (target.closest(".effect")) return [...effect, op.line, ...drop];
+  if (target.closest(".cut")) return [...drop, op.line, ...effect];
+  return [op.line, ...drop, ...effect];
 }
 
 function showTip(event) {
@@ -39,7 +41,7 @@ function onClick(event) {
 
 function onDoubleClick(event) {
   const op = opUnder(event.target);
-  if (op) zoomTo(op.first, op.last === undefined ? steps : op.last);
+  if (op) zoomTo(op.first, endOf(op) || steps);
 }
 
 function onWheel(event) {

@@ -16,7 +16,13 @@ function isDouble(line) {
   return line !== undefined && line.effect === "take" && line.by.length > 1;
 }
 
-// The reading that an operation has to do with: an open take has one in the record only.
+const isOpen = (op) => op.ending === "open";
+const isDropped = (op) => op.ending === "dropped";
+
+// The step up to which an operation went on; none if it is open.
+const endOf = (op) => (isDropped(op) ? op.dropped : op.last);
+
+// The reading that an operation has to do with: one that has not ended has its reading in the record only.
 function readingOf(op) {
   const line = index.lines.get(op.number);
   if (line && line.item !== undefined) return line.item;

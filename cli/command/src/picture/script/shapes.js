@@ -7,17 +7,17 @@ const xAt = (end) => LEAD + end * view.scale; // where a step ends; 0 is the beg
 const xOfStep = (s) => xAt(s - 0.5);
 const width = () => Math.max(view.room, Math.floor(xAt(steps) + TAIL));
 const fitScale = () => Math.min(WIDEST_FIT, (view.room - LEAD - TAIL) / steps);
-const isOpen = (op) => op.ending === "open";
 
+// An open bar runs out of the run, a dropped one ends in the middle of its drop, where the cross stands.
 function extent(op) {
   const from = xAt(op.first - 1);
   const least = isOpen(op) ? 9 : 2;
-  const to = op.last === undefined ? width() - 5 : xAt(op.last);
+  const to = isOpen(op) ? width() - 5 : isDropped(op) ? xOfStep(op.dropped) : xAt(op.last);
   return [from, Math.max(to, from + least)];
 }
 
 function makeShapes() {
-  for (const name of ["lanes", "grid", "guides", "bars", "labels", "ties", "link", "effects"]) {
+  for (const name of ["lanes", "grid", "guides", "bars", "labels", "cuts", "ties", "link", "effects"]) {
     layers[name] = svg("g", {}, plot);
   }
   layers.ticks = svg("g", {}, axis);
@@ -36,21 +36,31 @@ function makeShapes() {
 function makeBar(op) {
   const open = isOpen(op), empty = op.ending === "empty";
   const kinds = ["bar", empty ? "empty" : op.action];
-  if (open) kinds.push("open");
+  if (open || isDropped(op)) kinds.push(op.ending);
   if (readingOf(op) !== undefined) kinds.push("leads");
   const node = svg(open ? "path" : "rect", { class: kinds.join(" "), "data-op": op.number }, layers.bars);
   if (!open) set(node, { y: middle(op) - BAR / 2, height: BAR });
-  const label = svg("text", { class: open || empty ? "label dark" : "label", y: middle(op) + 4 }, layers.labels);
+  const dark = open || empty || isDropped(op);
+  const label = svg("text", { class: dark ? "label dark" : "label", y: middle(op) + 4 }, layers.labels);
   shapes.bars.push({ op, node, label, words: wordings(op) });
+  if (isDropped(op)) makeCut(op);
+}
+
+// A drop is a cross.
+function makeCut(op) {
+  const kind = readingOf(op) === undefined ? "cut" : "cut leads";
+  const node = svg("path", { class: kind, d: "M-5-5L5 5M-5 5L5-5", "data-op": op.number, "data-at": op.dropped }, layers.cuts);
+  shapes.cuts.push({ op, node });
 }
 
 // What a bar may say, the longest first.
 function wordings(op) {
   const item = readingOf(op), n = String(op.number);
-  if (op.action === "put") return [n + " put " + cm(op.value), n];
+  const said = (words) => (isDropped(op) ? [words + ", dropped", words] : [words]);
+  if (op.action === "put") return [...said(n + " put " + cm(op.value)), n];
   if (op.ending === "empty") return [n + " take, found nothing", n + " take", n];
-  if (item === undefined) return [n + " take", n];
-  return [n + " take of reading " + item + ", " + cm(valueOf(item)), n + " take of " + item, n];
+  if (item === undefined) return [...said(n + " take"), n];
+  return [...said(n + " take of reading " + item + ", " + cm(valueOf(item))), n + " take of " + item, n];
 }
 
 // A put's effect is a circle, a take's a diamond, and a double's diamond is bigger.
@@ -75,11 +85,14 @@ function place() {
   plot.setAttribute("height", height);
   axis.setAttribute("height", AXIS);
   for (const bar of shapes.bars) placeBar(bar);
-  for (const { line, op, node } of shapes.marks) {
-    set(node, { transform: `translate(${xOfStep(line.at)} ${middle(op)}) scale(${markSize(line)})` });
-  }
+  for (const { op, node } of shapes.cuts) placeMark(node, op.dropped, op, markSize());
+  for (const { line, op, node } of shapes.marks) placeMark(node, line.at, op, markSize(line));
   for (const { line, node } of shapes.ties) set(node, { x1: xOfStep(line.at), x2: xOfStep(line.at) });
   placePick();
+}
+
+function placeMark(node, at, op, size) {
+  set(node, { transform: `translate(${xOfStep(at)} ${middle(op)}) scale(${size})` });
 }
 
 // From afar the marks are smaller, so that they do not hide one another; doubles stay big.
@@ -126,7 +139,7 @@ function placeTicks(from, to) {
 function placeLabel({ op, label, words }, from, to) {
   const [start, stop] = extent(op).map((x) => Math.min(Math.max(x, from), to));
   const line = index.lines.get(op.number);
-  let left = start + 5, right = stop - 4;
+  let left = start + 5, right = stop - (isDropped(op) ? 8 : 4);
   if (line && stop > start) {
     const x = xOfStep(line.at), half = 6 * markSize(line) + 3;
     if (x - half - left >= right - x - half) right = Math.min(right, x - half);

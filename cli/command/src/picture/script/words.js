@@ -7,6 +7,8 @@ function tellNumbers() {
     + several(new Set(run.operations.map((op) => op.process)).size, "process", "processes") + " · " + (run.steps ? "up to step " + count(run.steps) : "no steps") + " · ");
   html("b", several(doubles, "double", "doubles"), line, doubles ? "many" : "");
   line.append(" · " + count(run.left.length) + " left at the end");
+  const dropped = run.operations.filter(isDropped).length;
+  if (dropped) line.append(" · " + count(dropped) + " dropped");
 }
 
 function chip(item, more, kind, parent) {
@@ -27,6 +29,9 @@ function tellLists() {
   const waiting = run.operations.filter((op) => op.first === undefined).map((op) => op.number);
   byId("waiting").hidden = waiting.length === 0;
   byId("waiting").textContent = "Not begun: " + waiting.join(", ");
+  const dropped = run.operations.filter(isDropped).map((op) => op.number + " at step " + count(op.dropped));
+  byId("dropped").hidden = dropped.length === 0;
+  byId("dropped").textContent = "Dropped: " + dropped.join("; ");
   for (const item of index.puts.keys()) {
     const option = html("option", "", byId("readings"));
     option.value = item;
