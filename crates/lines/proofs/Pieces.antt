@@ -4,10 +4,11 @@ use mathlib.Core.Logic.{_≢_}
 use Prim.Native.Nat.{ℕ}
 use mathlib.Core.Bool.{Bool, true, false}
 use mathlib.Core.List.{List, [], _++_, append-assoc, append-nil}
+use native.Mathlib.Omega.{arith}
 use Rattle.basics.specs.Choice.{pick, same}
 use Rattle.basics.specs.Text.{text, decimal}
 use Rattle.basics.proofs.Choice.{pick-then, pick-else, equal-same, unequal-same}
-use Rattle.rows.specs.Operations.{cells}
+use Rattle.rows.specs.Operations.{Cells, cells, dropped-mark}
 use Rattle.rows.specs.Operations.Column.{First, Last, Link, Taken}
 use Rattle.stage.specs.Printed.{stage-text}
 use Rattle.job.specs.declared.Operation.{Operation}
@@ -35,7 +36,7 @@ item-and-value j n {field} f =
     ap (λ (v : ℕ). text " item " ++ decimal n ++ (text " value " ++ stage-text v)) f
     ∙ sym (append-assoc (text " item " ++ decimal n) (text " value ") (stage-text (j .field n)))
 
--- the answer, the end and the progress of an operation, by what was read in its row
+-- the answer and the progress of an operation, by what was read in its row
 module _ (j : Job) (ops : List ℕ) (o : ℕ) where
   pub answer-of-link : {link : ℕ} → link ≡ cells ops Link o → link ≢ 0 → text " done" ≡ answer-told j (cells ops) o
   unfolding said answer-text
@@ -53,16 +54,6 @@ module _ (j : Job) (ops : List ℕ) (o : ℕ) where
   answer-of-item l e z =
       ap (answer-text j) (ap Answer.item e ∙ sym (pick-else Answer.empty _ (unequal-same (λ y. z (e ∙ y)))) ∙ said-of-take l)
 
-  pub end-of-open : cells ops Last o ≡ 0 → text " last - open" ≡ end-told j (cells ops) o
-  unfolding end-told
-  end-of-open z = sym (pick-then _ _ (equal-same z))
-
-  pub end-of-ended : {last : ℕ} → last ≡ cells ops Last o → last ≢ 0 → text " last " ++ decimal last ++ answer-told j (cells ops) o ≡ end-told j (cells ops) o
-  unfolding end-told
-  end-of-ended e z =
-      ap (λ (n : ℕ). text " last " ++ decimal n ++ answer-told j (cells ops) o) e
-      ∙ sym (pick-else (text " last - open") _ (unequal-same (λ y. z (e ∙ y))))
-
   pub not-begun : cells ops First o ≡ 0 → text " first - last - waiting" ≡ progress-told j (cells ops) o
   unfolding progress-told
   not-begun z = sym (pick-then _ _ (equal-same z))
@@ -72,6 +63,25 @@ module _ (j : Job) (ops : List ℕ) (o : ℕ) where
   begun e z =
       ap (λ (n : ℕ). text " first " ++ decimal n ++ end-told j (cells ops) o) e
       ∙ sym (pick-else (text " first - last - waiting") _ (unequal-same (λ y. z (e ∙ y))))
+
+-- and its end, of any cells
+module _ (j : Job) (c : Cells) (o : ℕ) where
+  pub end-of-open : c Last o ≡ 0 → text " last - open" ≡ end-told j c o
+  unfolding end-told
+  end-of-open z = sym (pick-then _ _ (equal-same z))
+
+  end-of-closed : c Last o ≢ 0 → pick (same (c Last o) dropped-mark) (text " last - dropped") (text " last " ++ decimal (c Last o) ++ answer-told j c o) ≡ end-told j c o
+  unfolding end-told
+  end-of-closed z = sym (pick-else _ _ (unequal-same z))
+
+  pub end-of-dropped : c Last o ≡ dropped-mark → text " last - dropped" ≡ end-told j c o
+  end-of-dropped d = sym (pick-then _ _ (equal-same d)) ∙ end-of-closed (λ z. let y : dropped-mark ≡ 0 = sym d ∙ z in omega arith)
+
+  pub end-of-ended : {last : ℕ} → last ≡ c Last o → last ≢ 0 → last ≢ dropped-mark → text " last " ++ decimal last ++ answer-told j c o ≡ end-told j c o
+  end-of-ended e z d =
+      ap (λ (n : ℕ). text " last " ++ decimal n ++ answer-told j c o) e
+      ∙ sym (pick-else (text " last - dropped") _ (unequal-same (λ y. d (e ∙ y))))
+      ∙ end-of-closed (λ y. z (e ∙ y))
 
 pub front-pieces : (j : Job) (o : ℕ) {process : ℕ} → process ≡ j .owner o → text "op " ++ decimal o ++ (text " process " ++ decimal process) ++ action-text j o ≡ front-text j o
 unfolding front-text

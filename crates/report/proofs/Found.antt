@@ -1,14 +1,14 @@
 -- What is found for a step in the row of the operation that made it, and that it is the run's line there. Assumes nothing.
 use mathlib.Core.Path.{_≡_, refl, sym, ap, subst, _∙_}
 use mathlib.Core.Logic.{_≢_, ⊎-elim}
-use Prim.Native.Nat.{ℕ, zero, suc, _≤_}
+use Prim.Native.Nat.{ℕ, zero, suc, _≤_, _<_}
 use native.Mathlib.Omega.{arith}
 use mathlib.Core.Bool.{Bool}
 use mathlib.Core.List.{List, [], _∷_, _++_, append-assoc}
 use Rattle.basics.specs.Choice.{pick, same}
 use Rattle.basics.specs.Maps.{at}
 use Rattle.basics.proofs.Choice.{pick-then, pick-else, pick-elim, test-elim, equal-same, unequal-same, same-unequal, split}
-use Rattle.rows.specs.Operations.{HasOps, Cells, cells}
+use Rattle.rows.specs.Operations.{HasOps, Cells, cells, dropped-mark}
 use Rattle.rows.specs.Operations.Column.{Last, Start, Link, Taken, Stands}
 use Rattle.job.specs.declared.Operation.{Operation}
 use Rattle.job.specs.Job.{Job}
@@ -34,6 +34,8 @@ use Rattle.lines.specs.Members.{takers-of}
 use Rattle.lines.specs.Lines.{member, found-line}
 use Rattle.report.specs.Found.{here, found, line-at, found-lines, Within}
 use Rattle.report.proofs.Facts.{item-operation, no-effect, ended-empty, maker-operation, idle-line}
+use Rattle.report.proofs.Endings.{Ends, ends}
+use Rattle.report.proofs.Endings.Ends.{stays-open, was-dropped, has-ended}
 
 -- what stands at its own step, there and elsewhere
 pub is-here : {own s : ℕ} (f : Found) → own ≡ s → f ≡ here own s f
@@ -65,7 +67,7 @@ module _ (c : Cells) (s : ℕ) (o : Operation) where
           ∙ ap (λ (n : ℕ). here (c Stands n) s (Takers (record { 0 = n }))) t
           ∙ sym (pick-else Nothing _ (unequal-same acts) ∙ pick-then _ _ (equal-same (sym l ∙ z)) ∙ pick-else _ _ (unequal-same (λ y. some (t ∙ y))))
 
-      found-bare : item ≡ 0 → pick (same (c Last (o .0)) 0) Nothing (here (c Start (o .0)) s (Empty o)) ≡ found c s o
+      found-bare : item ≡ 0 → pick (same (c Last (o .0)) 0) Nothing (pick (same (c Last (o .0)) dropped-mark) Nothing (here (c Start (o .0)) s (Empty o))) ≡ found c s o
       unfolding found
       found-bare y =
           sym (pick-else Nothing _ (unequal-same acts) ∙ pick-then _ _ (equal-same (sym l ∙ z)) ∙ pick-then _ _ (equal-same (sym t ∙ y)))
@@ -73,18 +75,25 @@ module _ (c : Cells) (s : ℕ) (o : Operation) where
       pub found-open : {last : ℕ} → item ≡ 0 → last ≡ c Last (o .0) → last ≡ 0 → Nothing ≡ found c s o
       found-open y e x = sym (pick-then Nothing _ (equal-same (sym e ∙ x))) ∙ found-bare y
 
-      pub found-empty : {last start : ℕ} → item ≡ 0 → last ≡ c Last (o .0) → last ≢ 0 → start ≡ c Start (o .0) → here start s (Empty o) ≡ found c s o
-      found-empty y e x f =
-          ap (λ (n : ℕ). here n s (Empty o)) f
-          ∙ sym (pick-else Nothing _ (unequal-same (λ w. x (e ∙ w))))
-          ∙ found-bare y
+      module _ {last : ℕ} (y : item ≡ 0) (e : last ≡ c Last (o .0)) (x : last ≢ 0) where
+        found-closed : pick (same (c Last (o .0)) dropped-mark) Nothing (here (c Start (o .0)) s (Empty o)) ≡ found c s o
+        found-closed = sym (pick-else Nothing _ (unequal-same (λ w. x (e ∙ w)))) ∙ found-bare y
+
+        pub found-dropped : last ≡ dropped-mark → Nothing ≡ found c s o
+        found-dropped d = sym (pick-then Nothing _ (equal-same (sym e ∙ d))) ∙ found-closed
+
+        pub found-empty : {start : ℕ} → last ≢ dropped-mark → start ≡ c Start (o .0) → here start s (Empty o) ≡ found c s o
+        found-empty m f =
+            ap (λ (n : ℕ). here n s (Empty o)) f
+            ∙ sym (pick-else Nothing _ (unequal-same (λ w. m (e ∙ w))))
+            ∙ found-closed
 
 -- who is found is within the count
 member-within : (c : Cells) (s : ℕ) (o : Operation) (count : ℕ) → o .0 ≤ count → (1 ≤ o .0 → c Taken (o .0) ≤ count) → member (found c s o) ≤ count
 unfolding found here member
 member-within c s o count low item =
     pick-elim P (same (o .0) 0) Nothing _ (λ e. omega arith) (λ acts. let some : o .0 ≢ 0 = same-unequal acts in
-    pick-elim P (same (c Link (o .0)) 0) _ _ (λ e. pick-elim P (same (c Taken (o .0)) 0) _ _ (λ y. pick-elim P (same (c Last (o .0)) 0) Nothing _ (λ x. omega arith) (λ x. either (c Start (o .0)) (Empty o) low)) (λ y. either (c Stands (c Taken (o .0))) (Takers (record { 0 = c Taken (o .0) })) (item (omega (arith, some))))) (λ e. either (c Link (o .0)) (Put o) low))
+    pick-elim P (same (c Link (o .0)) 0) _ _ (λ e. pick-elim P (same (c Taken (o .0)) 0) _ _ (λ y. pick-elim P (same (c Last (o .0)) 0) Nothing _ (λ x. omega arith) (λ x. pick-elim P (same (c Last (o .0)) dropped-mark) Nothing _ (λ d. omega arith) (λ d. either (c Start (o .0)) (Empty o) low))) (λ y. either (c Stands (c Taken (o .0))) (Takers (record { 0 = c Taken (o .0) })) (item (omega (arith, some))))) (λ e. either (c Link (o .0)) (Put o) low))
   where
     P : Found → Type 0
     P f = member f ≤ count
@@ -145,22 +154,21 @@ module _ (j : Job) (k s : ℕ) {c : Cells} (h : Agrees j k c) (o : Operation) (o
       no-item : Journal.taken (note j) k (o .0) ≡ 0
       no-item = sym (h Taken (o .0) op) ∙ t
 
-      going : c Last (o .0) ≡ 0 → Right
+      -- by its ending: one that was dropped is not found empty
+      bare : {n : ℕ} → Ends j k (o .0) n → c Last (o .0) ≡ n → Right
       unfolding found-line if-at
-      going z =
-          lines-agree (found-open c s o acts refl l refl t refl z) (no-effect j k (o .0) no-link no-item (sym (h Last (o .0) op) ∙ z)) refl
-
-      ended : c Last (o .0) ≢ 0 → Right
-      unfolding found-line
-      ended z =
-          lines-agree (found-empty c s o acts refl l refl t refl z refl)
-          (effect-of-empty (course j) k (o .0) op (ended-empty j k (o .0) op no-link no-item (λ y. z (h Last (o .0) op ∙ y)))
+      bare (stays-open z d) e = lines-agree (found-open c s o acts refl l refl t refl e) (no-effect j k (o .0) no-link no-item z) refl
+      bare (was-dropped z d) e =
+          lines-agree (found-dropped c s o acts refl l refl t refl (λ y. let never : dropped-mark ≡ 0 = sym e ∙ y in omega arith) e) (no-effect j k (o .0) no-link no-item z) refl
+      bare (has-ended z m) e =
+          lines-agree (found-empty c s o acts refl l refl t refl (λ y. z (sym e ∙ y)) (λ y. m (sym e ∙ y)) refl)
+          (effect-of-empty (course j) k (o .0) op (ended-empty j k (o .0) op no-link no-item z)
           ∙ ap (λ (n : ℕ). stands n (empty (o .0))) (sym (h Start (o .0) op)))
           (here-line (c Taken) (j .count) (c Start (o .0)) s (Empty o) (empty (o .0)) refl)
 
-  row-right : Right
-  row-right =
-      ⊎-elim (λ (l : c Link (o .0) ≡ 0). ⊎-elim (λ (t : c Taken (o .0) ≡ 0). ⊎-elim (going l t) (ended l t) (split (c Last (o .0)) 0)) (joined l) (split (c Taken (o .0)) 0)) linked (split (c Link (o .0)) 0)
+  row-right : k < dropped-mark → Right
+  row-right short =
+      ⊎-elim (λ (l : c Link (o .0) ≡ 0). ⊎-elim (λ (t : c Taken (o .0) ≡ 0). bare l t (ends j k (o .0) short acts) (h Last (o .0) op)) (joined l) (split (c Taken (o .0)) 0)) linked (split (c Link (o .0)) 0)
 
 -- who made a step, by the list, and the line there
 module _ (j : Job) {k : ℕ} {ops by : List ℕ} (h : Holds j k ops by) where
@@ -168,31 +176,32 @@ module _ (j : Job) {k : ℕ} {ops by : List ℕ} (h : Holds j k ops by) where
   maker-within s low high =
       ⊎-elim (λ (z : note j s .by ≡ 0). omega (arith, h .by-at s low high)) (λ (some : note j s .by ≢ 0). omega (arith, h .by-at s low high, maker-operation j s low some .to-count)) (split (note j s .by) 0)
 
-  line-held : (s : ℕ) → 1 ≤ s → s ≤ k → line-at (cells ops) (at by) (j .count) s ≡ run-line j k s
-  unfolding Record.line-at found-line
-  line-held s low high = ⊎-elim idle acted (split (at by s) 0)
-    where
-      maker : at by s ≡ note j s .by
-      maker = h .by-at s low high
+  module _ (short : k < dropped-mark) where
+    line-held : (s : ℕ) → 1 ≤ s → s ≤ k → line-at (cells ops) (at by) (j .count) s ≡ run-line j k s
+    unfolding Record.line-at found-line
+    line-held s low high = ⊎-elim idle acted (split (at by s) 0)
+      where
+        maker : at by s ≡ note j s .by
+        maker = h .by-at s low high
 
-      idle : at by s ≡ 0 → line-at (cells ops) (at by) (j .count) s ≡ run-line j k s
-      idle z =
-          ap (found-line (cells ops Taken) (j .count) s) (sym (found-idle (cells ops) s (record { 0 = at by s }) z))
-          ∙ sym (idle-line j k s low high (sym maker ∙ z))
+        idle : at by s ≡ 0 → line-at (cells ops) (at by) (j .count) s ≡ run-line j k s
+        idle z =
+            ap (found-line (cells ops Taken) (j .count) s) (sym (found-idle (cells ops) s (record { 0 = at by s }) z))
+            ∙ sym (idle-line j k s low high (sym maker ∙ z))
 
-      acted : at by s ≢ 0 → line-at (cells ops) (at by) (j .count) s ≡ run-line j k s
-      acted z =
-          let op : IsOperation (j .count) (at by s) = subst (IsOperation (j .count)) (sym maker) (maker-operation j s low (λ y. z (maker ∙ y))) in
-          row-right j k s (h .agrees) (record { 0 = at by s }) op
-          ∙ ap (λ (n : ℕ). if-at s (effect (j .object) (note j) (j .count) k n)) maker
+        acted : at by s ≢ 0 → line-at (cells ops) (at by) (j .count) s ≡ run-line j k s
+        acted z =
+            let op : IsOperation (j .count) (at by s) = subst (IsOperation (j .count)) (sym maker) (maker-operation j s low (λ y. z (maker ∙ y))) in
+            row-right j k s (h .agrees) (record { 0 = at by s }) op short
+            ∙ ap (λ (n : ℕ). if-at s (effect (j .object) (note j) (j .count) k n)) maker
 
-  -- so the lines found are the run's
-  pub lines-held : (n : ℕ) → n ≤ k → found-lines (cells ops) (at by) (j .count) n ≡ run-lines j k n
-  unfolding found-lines lines-to
-  lines-held zero high = refl
-  lines-held (suc n) high =
-      ap (λ (l : List Recorded). l ++ line-at (cells ops) (at by) (j .count) (suc n)) (lines-held n (omega arith))
-      ∙ ap (λ (l : List Recorded). run-lines j k n ++ l) (line-held (suc n) (omega arith) high)
+    -- so the lines found are the run's
+    pub lines-held : (n : ℕ) → n ≤ k → found-lines (cells ops) (at by) (j .count) n ≡ run-lines j k n
+    unfolding found-lines lines-to
+    lines-held zero high = refl
+    lines-held (suc n) high =
+        ap (λ (l : List Recorded). l ++ line-at (cells ops) (at by) (j .count) (suc n)) (lines-held n (omega arith))
+        ∙ ap (λ (l : List Recorded). run-lines j k n ++ l) (line-held (suc n) (omega arith) high)
 
 record-lines-append : (a b : List Recorded) → record-lines (a ++ b) ≡ record-lines a ++ record-lines b
 unfolding record-lines

@@ -1,51 +1,65 @@
 -- The line of an operation, by its row, and that its record and its item's are in the stream. Assumes nothing.
 use mathlib.Core.Path.{_≡_, refl, sym, ap, ap₂, _∙_}
-use mathlib.Core.Logic.{⊎-elim}
+use mathlib.Core.Logic.{_≢_, ⊎-elim}
 use Prim.Native.Nat.{ℕ, zero, suc, _+_, _≤_, _<_}
 use native.Mathlib.Omega.{arith}
-use mathlib.Core.Bool.{Bool}
 use mathlib.Core.List.{List, _++_, append-assoc}
 use lib.ListN.{length}
 use Rattle.basics.specs.Choice.{pick, same}
 use Rattle.basics.specs.Text.{text, decimal}
-use Rattle.basics.proofs.Choice.{test-elim, same-unequal, split}
-use Rattle.rows.specs.Operations.{HasOps, Cells, cells}
+use Rattle.basics.proofs.Choice.{pick-then, pick-else, equal-same, unequal-same, split}
+use Rattle.rows.specs.Operations.{HasOps, Cells, cells, dropped-mark}
 use Rattle.rows.specs.Operations.Column.{First, Last, Link, Taken}
 use Rattle.job.specs.Stream.{record-at, stream-length}
 use Rattle.job.specs.Job.{Job, job-of}
 use Rattle.machine.specs.Notes.{note}
-use Rattle.machine.specs.Journal.{first, last, link, taken, answer}
+use Rattle.machine.specs.Journal.{first, last, taken, answer}
 use Rattle.machine.specs.Explained.{IsOperation}
-use Rattle.wording.specs.Report.{answer-text, progress-text, operation-line, operation-lines}
+use Rattle.theory.proofs.Life.{operation-some}
+use Rattle.wording.specs.Report.{answer-text, end-text, progress-text, operation-line, operation-lines}
 use Rattle.text.proofs.Each.{each-to}
 use Rattle.journal.specs.Journal.{Agrees}
-use Rattle.lines.specs.Told.{said, InStream, front-text, end-told, progress-told, line-told}
+use Rattle.lines.specs.Told.{said, InStream, front-text, answer-told, end-told, progress-told, line-told}
+use Rattle.lines.proofs.Pieces.{end-of-open, end-of-dropped, end-of-ended}
 use Rattle.report.proofs.Facts.{item-operation, answer-said}
+use Rattle.report.proofs.Endings.{Ends, ends}
+use Rattle.report.proofs.Endings.Ends.{stays-open, was-dropped, has-ended}
 
 module _ (j : Job) (k : ℕ) {c : Cells} (h : Agrees j k c) (o : ℕ) (op : IsOperation (j .count) o) where
   pub item-in-range : c Taken o ≤ j .count
   item-in-range =
       ⊎-elim (λ z. omega (arith, h Taken o op)) (λ some. omega (arith, h Taken o op, item-operation j k o op some .to-count)) (split (taken (note j) k o) 0)
 
-  -- what follows `first`, behind the first step
-  end-is : end-told j c o ≡ text " last " ++ pick (same (last (note j) k o) 0) (text "- open") (decimal (last (note j) k o) ++ answer-text j (answer (note j) k o))
-  unfolding end-told text pick
-  end-is =
-      ap (λ (n : ℕ). pick (same n 0) (text " last - open") (text " last " ++ decimal n ++ answer-text j (said (c Link o) (c Taken o)))) (h Last o op)
-      ∙ ap₂ (λ (m n : ℕ). pick (same (last (note j) k o) 0) (text " last - open") (text " last " ++ decimal (last (note j) k o) ++ answer-text j (said m n))) (h Link o op) (h Taken o op)
-      ∙ test-elim (λ (t : Bool). pick t (text " last - open") (text " last " ++ decimal (last (note j) k o) ++ answer-text j (said (link (note j) k o) (taken (note j) k o))) ≡ text " last " ++ pick t (text "- open") (decimal (last (note j) k o) ++ answer-text j (answer (note j) k o))) (same (last (note j) k o) 0)
-      (λ e. refl)
-      (λ e. append-assoc (text " last ") (decimal (last (note j) k o)) _ ∙ ap (λ a. text " last " ++ (decimal (last (note j) k o) ++ answer-text j a)) (sym (answer-said j k o op (same-unequal e))))
+  answer-is : last (note j) k o ≢ 0 → answer-told j c o ≡ answer-text j (answer (note j) k o)
+  answer-is ended =
+      ap (answer-text j) (ap₂ said (h Link o op) (h Taken o op) ∙ sym (answer-said j k o op ended))
 
-  progress-is : progress-told j c o ≡ progress-text j k o
-  unfolding progress-told progress-text
-  progress-is =
-      ap₂ (λ (n : ℕ) (l : List ℕ). pick (same n 0) (text " first - last - waiting") (text " first " ++ decimal n ++ l)) (h First o op) end-is
-      ∙ ap (pick (same (first (note j) k o) 0) (text " first - last - waiting")) (sym (append-assoc (text " first " ++ decimal (first (note j) k o)) (text " last ") _))
+  module _ (short : k < dropped-mark) where
+    -- what follows `first`, behind the first step
+    end-is : end-told j c o ≡ text " last " ++ end-text j k o
+    unfolding end-text text
+    end-is = by-ending (ends j k o short (operation-some op)) (h Last o op)
+      where
+        by-ending : {n : ℕ} → Ends j k o n → c Last o ≡ n → end-told j c o ≡ text " last " ++ end-text j k o
+        by-ending (stays-open z d) e =
+            sym (end-of-open j c o e) ∙ ap (λ l. text " last " ++ l) (sym (pick-then _ _ (equal-same z) ∙ pick-then _ _ (equal-same d)))
+        by-ending (was-dropped z d) e =
+            sym (end-of-dropped j c o e) ∙ ap (λ l. text " last " ++ l) (sym (pick-then _ _ (equal-same z) ∙ pick-else _ _ (unequal-same d)))
+        by-ending (has-ended z m) e =
+            sym (end-of-ended j c o (sym e) z m)
+            ∙ append-assoc (text " last ") (decimal (last (note j) k o)) _
+            ∙ ap (λ l. text " last " ++ (decimal (last (note j) k o) ++ l)) (answer-is z)
+            ∙ ap (λ l. text " last " ++ l) (sym (pick-else _ _ (unequal-same z)))
 
-  pub line-is : line-told j c o ≡ operation-line j k o
-  unfolding line-told front-text operation-line
-  line-is = ap (λ (l : List ℕ). front-text j o ++ l ++ text "\n") progress-is
+    progress-is : progress-told j c o ≡ progress-text j k o
+    unfolding progress-told progress-text
+    progress-is =
+        ap₂ (λ (n : ℕ) (l : List ℕ). pick (same n 0) (text " first - last - waiting") (text " first " ++ decimal n ++ l)) (h First o op) end-is
+        ∙ ap (pick (same (first (note j) k o) 0) (text " first - last - waiting")) (sym (append-assoc (text " first " ++ decimal (first (note j) k o)) (text " last ") _))
+
+    pub line-is : line-told j c o ≡ operation-line j k o
+    unfolding line-told front-text operation-line
+    line-is = ap (λ (l : List ℕ). front-text j o ++ l ++ text "\n") progress-is
 
 record-within : (s : List ℕ) (o : ℕ) → stream-length s ≤ length s → o ≤ job-of s .count → record-at o + 3 < length s
 unfolding stream-length record-at job-of

@@ -1,13 +1,13 @@
 -- What a run leaves gives each part of its report, and the parts are the whole. Assumes nothing.
 use mathlib.Core.Path.{_≡_, refl, sym, ap, ap₂, subst, _∙_}
-use Prim.Native.Nat.{ℕ}
+use Prim.Native.Nat.{ℕ, _<_}
 use native.Mathlib.Nat.{zero-add}
 use native.Mathlib.Omega.{arith}
 use mathlib.Core.List.{List, _++_}
 use lib.ListN.{length}
 use Rattle.basics.specs.Maps.{at}
 use Rattle.rows.specs.Nodes.{HasNodes}
-use Rattle.rows.specs.Operations.{cells}
+use Rattle.rows.specs.Operations.{cells, dropped-mark}
 use Rattle.text.specs.Laid.{Wrote}
 use Rattle.job.specs.declared.Heading.{Heading}
 use Rattle.job.specs.Job.{Job, heading-of}
@@ -37,6 +37,7 @@ uppers-there {j} {h} {nodes} {end} l =
 -- what the parts of a report ask, and that they are the whole in their order
 pub record Parts (j : Job) (h : Heading) (ops by nodes : List ℕ) (reach node : ℕ) : Type 0 where
   pub count : h .count ≡ j .count
+  pub short : j .steps < dropped-mark
   pub agrees : Agrees j (j .steps) (cells ops)
   pub within : Within ops by (h .count) reach
   pub nodes-there : NodesThere nodes (h .count) node
@@ -48,6 +49,7 @@ unfolding report the-record
 parts-of-job j {ops} {by} {nodes} {end} l =
     record {
       count = refl;
+      short = l .short;
       agrees = l .journal .agrees;
       within = record {
         has-ops = l .has-ops;
@@ -58,7 +60,7 @@ parts-of-job j {ops} {by} {nodes} {end} l =
       nodes-there = nodes-held j (j .steps) (end .head) (end .tail) (end .top) nodes (l .memory) (l .has-nodes);
       whole =
           ap₂ (λ (r : List Recorded) (items : List ℕ). object-line (j .object) ++ operation-lines j (j .steps) (j .count) ++ record-lines r ++ left-line items)
-          (lines-held j (l .journal) (end .reach .0) (l .behind .within) ∙ all-lines-to-reach j (l .behind))
+          (lines-held j (l .journal) (l .short) (end .reach .0) (l .behind .within) ∙ all-lines-to-reach j (l .behind))
           (left-held j (j .steps) (end .head) (end .tail) (end .top) nodes (l .memory));
     }
 

@@ -3,7 +3,7 @@ use mathlib.Core.Path.{_≡_}
 use Prim.Native.Nat.{ℕ, _≤_, _<_}
 use mathlib.Core.List.{List}
 use lib.ListN.{length}
-use Rattle.rows.specs.Operations.{HasOps}
+use Rattle.rows.specs.Operations.{HasOps, dropped-mark}
 use Rattle.rows.specs.Nodes.{HasNodes}
 use Rattle.job.specs.declared.Heading.{Heading}
 use Rattle.job.specs.Limits.{field}
@@ -19,6 +19,8 @@ use Rattle.text.specs.Laid.{laid}
 pub record Leaves (j : Job) (h : Heading) (ops by nodes : List ℕ) (end : Finish) : Type 0 where
   pub heading : h ≡ heading-of j
   pub few : h .count ≤ field .operations
+  -- no step has the number that marks a drop
+  pub short : h .steps < dropped-mark
   pub has-ops : HasOps (h .count) ops
   pub has-nodes : HasNodes (h .count) nodes
   pub has-steps : h .steps < length by

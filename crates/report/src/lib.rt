@@ -17,7 +17,7 @@ ghost use Prim.Native.Nat.{_+_, _≤_, _<_};
 ghost use lib.ListN.{length};
 ghost use Rattle.basics.specs.Maps as Maps;
 ghost use Rattle.rows.specs.Nodes.{HasNodes, uppers};
-ghost use Rattle.rows.specs.Operations.{HasOps, cells};
+ghost use Rattle.rows.specs.Operations.{HasOps, cells, dropped-mark};
 ghost use Rattle.rows.specs.Operations.Column.{Taken};
 ghost use Rattle.text.specs.Laid.{Wrote};
 ghost use Rattle.job.specs.Limits.{field};
@@ -34,7 +34,7 @@ const CELLS: usize = lines::BOUNDS * (Limits::OPERATIONS + 1);
 
 // The lines of operations, in number order.
 fn operation_lines(out: &mut [u8], at: usize, stream: &[u8], ops: &[u16], count: u16) -> usize
-    requires { ⌜ (stream-length (now stream) ≤ length (now stream)) × (count ≡ job-of (now stream) .count) × HasOps count (now ops) × Agrees (job-of (now stream)) (job-of (now stream) .steps) (cells (now ops)) ⌝ }
+    requires { ⌜ (stream-length (now stream) ≤ length (now stream)) × (count ≡ job-of (now stream) .count) × (job-of (now stream) .steps < dropped-mark) × HasOps count (now ops) × Agrees (job-of (now stream)) (job-of (now stream) .steps) (cells (now ops)) ⌝ }
     requires { ⌜ at + length (operation-lines (job-of (now stream)) (job-of (now stream) .steps) count) ≤ length (now out) ⌝ }
     ensures { λ r. ⌜ Wrote (now (out .entry)) (now (out .exit)) at r (operation-lines (job-of (now (stream .entry))) (job-of (now (stream .entry)) .steps) count) ⌝ }
 {

@@ -28,13 +28,13 @@ number Link = 3
 number Taken = 4
 number Stands = 5
 
--- what stands for the last step of a dropped operation, which has none: no step has this number
-abbrev pub dropped-mark : ℕ
-dropped-mark = 65535
-
 -- how many they are
 abbrev pub op-width : ℕ
 op-width = 6
+
+-- what stands for the last step of a dropped operation, which has none: no step has this number
+abbrev pub dropped-mark : ℕ
+dropped-mark = 65535
 
 -- a list has the rows of operations up to operation `n`
 abbrev pub HasOps : ℕ → List ℕ → Type 0

@@ -18,11 +18,11 @@ pub const TAKEN: usize = 4;
 
 pub const STANDS: usize = 5;
 
-// What stands for the last step of a dropped operation, which has none: no step has this number.
-pub const DROPPED: u16 = 65535;
-
 // how many they are
 pub const OPS: usize = 6;
+
+// What stands for the last step of a dropped operation, which has none: no step has this number.
+pub const DROPPED: u16 = 65535;
 
 // The columns of a node's row: its next, its mark and its upper.
 pub const NEXT: usize = 0;

@@ -19,10 +19,11 @@ use Rattle.machine.specs.Multiplicity.{Line}
 use Rattle.machine.specs.Multiplicity.Line.{put, takes, empty}
 use Rattle.machine.specs.Notes.{Answer, note}
 use Rattle.machine.specs.Journal.{first, last, answer}
+use Rattle.machine.specs.Drops.{drop}
 use Rattle.machine.specs.Record.{Recorded, the-record}
 use Rattle.machine.specs.Left.{left}
 use Rattle.machine.specs.Explained.{members, Says, Answered, IsOperation, Explained}
-use Rattle.wording.specs.Report.{object-line, action-text, answer-text, progress-text, operation-line, operation-lines, spaced, effect-text, record-line, record-lines, left-line, report}
+use Rattle.wording.specs.Report.{object-line, action-text, answer-text, end-text, progress-text, operation-line, operation-lines, spaced, effect-text, record-line, record-lines, left-line, report}
 use Rattle.machine.proofs.Stamps.{first-le, last-le}
 use Rattle.machine.proofs.Placed.{Placed, placed}
 use Rattle.theory.proofs.Theorem.{explained}
@@ -94,16 +95,19 @@ module _ (j : Job) (fits : Fits j) where
         go line b e (Says.says-item {item = i} m) s = let is : i ≡ n = cc in subst (IsOperation (j .count)) is (handed-out (IsOperation (j .count)) s)
         go line b e Says.says-empty s = let z : _≡_ {A = ℕ} 0 1 = cc in absurd (omega arith)
 
+    end-length : (o : ℕ) → IsOperation (j .count) o → length (end-text j (j .steps) o) ≤ 26
+    unfolding end-text text
+    end-length o op =
+        pick-elim (λ l. length l ≤ 26) (same (last (note j) (j .steps) o) 0) (pick (same (drop j (j .steps) o) 0) (text "- open") (text "- dropped")) (decimal (last (note j) (j .steps) o) ++ answer-text j (answer (note j) (j .steps) o))
+        (λ t. pick-elim (λ l. length l ≤ 26) (same (drop j (j .steps) o) 0) (text "- open") (text "- dropped") (λ d. omega arith) (λ d. omega arith))
+        (λ t. simp length-append (omega (arith, step-length (last (note j) (j .steps) o) (last-le (note j) (j .steps) o), answer-length (answer (note j) (j .steps) o) (λ n a. answer-operation o n op (same-unequal t) a))))
+
     progress-length : (o : ℕ) → IsOperation (j .count) o → length (progress-text j (j .steps) o) ≤ 44
     unfolding progress-text text
     progress-length o op =
-        pick-elim (λ l. length l ≤ 44) (same (first (note j) (j .steps) o) 0) (text " first - last - waiting") (text " first " ++ decimal (first (note j) (j .steps) o) ++ text " last " ++ end-text) (λ t. omega arith) (λ t. simp length-append (omega (arith, step-length (first (note j) (j .steps) o) (first-le (note j) (j .steps) o), end-length)))
-      where
-        end-text : List ℕ
-        end-text = pick (same (last (note j) (j .steps) o) 0) (text "- open") (decimal (last (note j) (j .steps) o) ++ answer-text j (answer (note j) (j .steps) o))
-
-        end-length : length end-text ≤ 26
-        end-length = pick-elim (λ l. length l ≤ 26) (same (last (note j) (j .steps) o) 0) (text "- open") (decimal (last (note j) (j .steps) o) ++ answer-text j (answer (note j) (j .steps) o)) (λ t. omega arith) (λ t. simp length-append (omega (arith, step-length (last (note j) (j .steps) o) (last-le (note j) (j .steps) o), answer-length (answer (note j) (j .steps) o) (λ n a. answer-operation o n op (same-unequal t) a))))
+        pick-elim (λ l. length l ≤ 44) (same (first (note j) (j .steps) o) 0) (text " first - last - waiting") (text " first " ++ decimal (first (note j) (j .steps) o) ++ text " last " ++ end-text j (j .steps) o)
+        (λ t. omega arith)
+        (λ t. simp length-append (omega (arith, step-length (first (note j) (j .steps) o) (first-le (note j) (j .steps) o), end-length o op)))
 
     operation-line-length : (o : ℕ) → IsOperation (j .count) o → length (operation-line j (j .steps) o) ≤ 73
     unfolding operation-line text

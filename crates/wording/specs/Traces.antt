@@ -1,6 +1,6 @@
 -- Traces, as one table of jobs and whole reports: those that document 01 marks M ("M is proved"), as document 02 has them, and behind them
--- twelve of our own, seven of them of the two-way linked stack, of which document 02 has no trace, so that every outcome of every row happens in
--- some trace. The reports are worked out from the papers by hand.
+-- nineteen of our own, so that every outcome of every row happens in some trace: seven of them are of the two-way linked stack and seven of drops,
+-- of which document 02 has no trace. The reports are worked out from the papers by hand.
 -- `traces-proved` says that the definitions accept every job and give its report, by computation.
 use mathlib.Core.Path.{_≡_, refl}
 use Prim.Native.Nat.{ℕ, _-_}
@@ -16,6 +16,7 @@ use Rattle.stage.specs.Centimetres.{half-way, even-one, nearest, centimetres}
 use Rattle.stage.specs.Printed.{signed-decimal, stage-text}
 use Rattle.job.specs.Kind.{kind-number, kinds, look-up, kind-of, is-missing, kind-found}
 use Rattle.job.specs.Limits.{field, most-file}
+use Rattle.job.specs.Slot.{slot-of, process-of}
 use Rattle.job.specs.Stream.{kind, processes, operations, schedule-length, record-at, process, action, value, scheduled, stream-length}
 use Rattle.job.specs.Refusals.{first-met, any, outside, bad-kind, bad-processes, bad-operations, bad-schedule-length, exact-count, bad-record, bad-records, bad-entry, bad-schedule, bad-padding, header-conditions, list-conditions}
 use Rattle.job.specs.File.{zeros, block-at, block-count, payloads, joined, blocks, padded, file-of, bad-length, blocks-refusal, bad-count, stream-refusal, file-refusal}
@@ -24,13 +25,14 @@ use Rattle.job.specs.Examples.{put, take, joined-records, header, stream}
 use Rattle.machine.specs.Memory.{fresh-memory, set-from-to, yes-if, with-head, with-tail, with-top, with-next, with-mark, with-upper}
 use Rattle.machine.specs.Table.{row, table, position, row-of, successor, end-of, is-end, ended, first-row}
 use Rattle.machine.specs.Access.{have-read, have-set, access}
-use Rattle.machine.specs.Run.{seek, operation-after, before, fresh-state, reach, registers, reached, row-after, place-after, resting, step, state-after}
-use Rattle.machine.specs.Notes.{answer-at, answer-of, is-answer, event-of, idle, acted, note}
+use Rattle.machine.specs.Run.{seek, operation-after, before, fresh-state, reach, registers, reached, row-after, place-after, resting, acting, dropping, step, state-after}
+use Rattle.machine.specs.Notes.{answer-at, answer-of, is-answer, event-of, idle, acted, note-next, note}
 use Rattle.machine.specs.Journal.{is-round, is-linked, item-of, moved-to, earliest, latest, made, begins-round, links, joins, ends, first, last, answer, start, link, join, taken}
+use Rattle.machine.specs.Drops.{dropped-next, dropped, drop}
 use Rattle.machine.specs.Effects.{numbers, sift, largest, takers, first-move, latest-start, takes-at, is-empty, effect}
 use Rattle.machine.specs.Record.{if-at, line-at, lines-to, the-record}
 use Rattle.machine.specs.Left.{walk, left-in, left}
-use Rattle.wording.specs.Report.{object-line, action-text, answer-text, progress-text, operation-line, operation-lines, spaced, effect-text, record-line, record-lines, left-line, report}
+use Rattle.wording.specs.Report.{object-line, action-text, answer-text, end-text, progress-text, operation-line, operation-lines, spaced, effect-text, record-line, record-lines, left-line, report}
 
 -- a job, as its stream, and its whole report
 pub record Trace : Type 0 where
@@ -178,6 +180,49 @@ traces =
       job = stream 3 2 (put 0 500 ∷ take 1 ∷ put 0 600 ∷ []) (0 ∷ 0 ∷ 0 ∷ 0 ∷ 0 ∷ 1 ∷ 1 ∷ 1 ∷ 1 ∷ 0 ∷ 0 ∷ 0 ∷ 0 ∷ 0 ∷ 0 ∷ 0 ∷ 0 ∷ 0 ∷ 0 ∷ 1 ∷ 1 ∷ []);
       expected = "object linked\nop 1 process 0 put 50 first 1 last 5 done\nop 2 process 1 take first 6 last 21 item 1 value 50\nop 3 process 0 put 60 first 10 last 19 done\nat 4 put 1\nat 9 take 1 by 2\nat 18 put 3\nleft 1 3\n";
     }
+    -- Drops. Document 02, request 4: "A schedule entry 128 + p is a numbered step in which process p drops its begun operation, then stands before its
+    -- next; with none begun it is idle." Put 1 is dropped behind its Q2, before its Q3, and nothing came of it. Steps 1, 2, 3, 7 and 12 drop none, for none has begun:
+    -- before a first operation, by process 2, which has no operation, behind another drop, and when all of process 0 are done. None of them skips an operation.
+    ∷ record {
+      job = stream 1 3 (put 0 500 ∷ put 0 510 ∷ take 1 ∷ []) (128 ∷ 129 ∷ 130 ∷ 0 ∷ 0 ∷ 128 ∷ 128 ∷ 0 ∷ 0 ∷ 0 ∷ 0 ∷ 128 ∷ []);
+      expected = "object queue\nop 1 process 0 put 50 first 4 last - dropped\nop 2 process 0 put 51 first 8 last 11 done\nop 3 process 1 take first - last - waiting\nat 10 put 2\nleft 1 2\n";
+    }
+    -- A queue put dropped between its changing Q3 and its Q4: its item is in, and Tail is left behind. The next of its process is dropped behind its Q1. Put 3 helps: Q1
+    -- Q2 Q5, then Q1 Q2 Q3 Q4; and take 4 gets item 1, T1 T2 T3 T5.
+    ∷ record {
+      job = stream 1 2 (put 0 500 ∷ put 0 510 ∷ put 1 520 ∷ take 1 ∷ []) (0 ∷ 0 ∷ 0 ∷ 128 ∷ 0 ∷ 128 ∷ 1 ∷ 1 ∷ 1 ∷ 1 ∷ 1 ∷ 1 ∷ 1 ∷ 1 ∷ 1 ∷ 1 ∷ 1 ∷ []);
+      expected = "object queue\nop 1 process 0 put 50 first 1 last - dropped\nop 2 process 0 put 51 first 5 last - dropped\nop 3 process 1 put 52 first 7 last 13 done\nop 4 process 1 take first 14 last 17 item 1 value 50\nat 3 put 1\nat 12 put 3\nat 17 take 1 by 4\nleft 1 3\n";
+    }
+    -- Queue takes without effect: 2 is dropped behind its T3, before its T5, and 3 takes the item; 4 is dropped behind its T2, with the queue empty, before the T3 that would
+    -- have answered so.
+    ∷ record {
+      job = stream 1 3 (put 0 500 ∷ take 1 ∷ take 2 ∷ take 1 ∷ []) (0 ∷ 0 ∷ 0 ∷ 0 ∷ 1 ∷ 1 ∷ 1 ∷ 129 ∷ 2 ∷ 2 ∷ 2 ∷ 2 ∷ 1 ∷ 1 ∷ 129 ∷ []);
+      expected = "object queue\nop 1 process 0 put 50 first 1 last 4 done\nop 2 process 1 take first 5 last - dropped\nop 3 process 2 take first 9 last 12 item 1 value 50\nop 4 process 1 take first 13 last - dropped\nat 3 put 1\nat 12 take 1 by 3\nleft 0\n";
+    }
+    -- Stack takes dropped between R3 and R4: each took its item, which nobody got. Put 3 meets the mark of 2's item, P1 P2 P4, then P1 P3; take 5 meets that of 4's, R1 R2 R5,
+    -- and its next R1 reads none.
+    ∷ record {
+      job = stream 2 3 (put 0 500 ∷ take 1 ∷ put 0 600 ∷ take 1 ∷ take 2 ∷ []) (0 ∷ 0 ∷ 1 ∷ 1 ∷ 1 ∷ 129 ∷ 0 ∷ 0 ∷ 0 ∷ 0 ∷ 0 ∷ 1 ∷ 1 ∷ 1 ∷ 129 ∷ 2 ∷ 2 ∷ 2 ∷ 2 ∷ []);
+      expected = "object stack\nop 1 process 0 put 50 first 1 last 2 done\nop 2 process 1 take first 3 last - dropped\nop 3 process 0 put 60 first 7 last 11 done\nop 4 process 1 take first 12 last - dropped\nop 5 process 2 take first 16 last 19 empty\nat 2 put 1\nat 3 take 1 by 2\nat 11 put 3\nat 12 take 3 by 4\nat 19 empty by 5\nleft 0\n";
+    }
+    -- Two takers of item 2, of which 3 is dropped behind its R3 and 4 ends with it: R1 R2 by each, R3 by 3, R3 R4 by 4; the line stands at the R1 of 4, the later one. Take 5 is
+    -- dropped behind its R3 on item 1, and put 6, which meets that mark, P1 P2, before its P4: Top is still at node 1, which is marked, so it is not left.
+    ∷ record {
+      job = stream 2 3 (put 0 500 ∷ put 0 600 ∷ take 1 ∷ take 2 ∷ take 1 ∷ put 0 700 ∷ []) (0 ∷ 0 ∷ 0 ∷ 0 ∷ 0 ∷ 1 ∷ 1 ∷ 2 ∷ 2 ∷ 1 ∷ 129 ∷ 2 ∷ 2 ∷ 1 ∷ 1 ∷ 1 ∷ 129 ∷ 0 ∷ 0 ∷ 128 ∷ []);
+      expected = "object stack\nop 1 process 0 put 50 first 1 last 2 done\nop 2 process 0 put 60 first 3 last 5 done\nop 3 process 1 take first 6 last - dropped\nop 4 process 2 take first 8 last 13 item 2 value 60\nop 5 process 1 take first 14 last - dropped\nop 6 process 0 put 70 first 18 last - dropped\nat 2 put 1\nat 5 put 2\nat 8 take 2 by 3 4\nat 14 take 1 by 5\nleft 0\n";
+    }
+    -- A two-way linked stack: put 1 is dropped between its V4 and its V5, so Top is behind. Take 2 helps, W1 W2 W8, and is dropped behind W1 W2 W3, before its W4: nothing came
+    -- of it. Takes 3 and 4 read the flag live, W1 W2 W3 by each; 3 clears it and is dropped between its W4 and its W5; 4 passes W4 too and ends, W5 W6.
+    ∷ record {
+      job = stream 3 3 (put 0 500 ∷ take 1 ∷ take 1 ∷ take 2 ∷ []) (0 ∷ 0 ∷ 0 ∷ 0 ∷ 128 ∷ 1 ∷ 1 ∷ 1 ∷ 1 ∷ 1 ∷ 1 ∷ 129 ∷ 1 ∷ 1 ∷ 1 ∷ 2 ∷ 2 ∷ 2 ∷ 1 ∷ 129 ∷ 2 ∷ 2 ∷ 2 ∷ []);
+      expected = "object linked\nop 1 process 0 put 50 first 1 last - dropped\nop 2 process 1 take first 6 last - dropped\nop 3 process 1 take first 13 last - dropped\nop 4 process 2 take first 16 last 23 item 1 value 50\nat 4 put 1\nat 19 take 1 by 3 4\nleft 0\n";
+    }
+    -- Take 2 is dropped between its W4 and its W5, alone, so a dead node is on top. Put 3 takes it off, V1 V2 V3 V7 V8, links, V1 V2 V3 V4, and is dropped before its V5. Take 4
+    -- helps Top on, W1 W2 W8, clears the flag, W1 W2 W3 W4, and is dropped: node 3 is still linked above the sentinel, but dead, so it is not left.
+    ∷ record {
+      job = stream 3 2 (put 0 500 ∷ take 1 ∷ put 0 600 ∷ take 1 ∷ []) (0 ∷ 0 ∷ 0 ∷ 0 ∷ 0 ∷ 1 ∷ 1 ∷ 1 ∷ 1 ∷ 129 ∷ 0 ∷ 0 ∷ 0 ∷ 0 ∷ 0 ∷ 0 ∷ 0 ∷ 0 ∷ 0 ∷ 128 ∷ 1 ∷ 1 ∷ 1 ∷ 1 ∷ 1 ∷ 1 ∷ 1 ∷ 129 ∷ []);
+      expected = "object linked\nop 1 process 0 put 50 first 1 last 5 done\nop 2 process 1 take first 6 last - dropped\nop 3 process 0 put 60 first 11 last - dropped\nop 4 process 1 take first 21 last - dropped\nat 4 put 1\nat 9 take 1 by 2\nat 19 put 3\nat 27 take 3 by 4\nleft 0\n";
+    }
     ∷ []
 
 -- the refusal of a trace's file, and the report of its job
@@ -193,5 +238,5 @@ unfoldable pub promised : Trace → Replayed
 promised t = record { number = 0; text = text (t .expected) }
 
 pub traces-proved : map replayed traces ≡ map promised traces
-unfolding put take below joined-records header stream traces replayed promised pick same less at upd word word-bytes text digits decimal block-size payload-size summed-size add-byte add-bytes sums block payload-of sum-differs misplaced block-refusal kind-number kinds look-up kind-of is-missing kind-found kind processes operations schedule-length record-at process action value scheduled stream-length first-met any outside bad-kind bad-processes bad-operations bad-schedule-length exact-count bad-record bad-records bad-entry bad-schedule bad-padding header-conditions list-conditions most-file zeros block-at block-count payloads joined blocks padded file-of bad-length blocks-refusal bad-count stream-refusal file-refusal job-of fresh-memory set-from-to yes-if with-head with-tail with-top with-next with-mark with-upper row table position row-of successor end-of is-end ended first-row have-read have-set access seek operation-after before fresh-state reach registers reached row-after place-after resting step state-after answer-at answer-of is-answer event-of is-round is-linked item-of moved-to idle acted note earliest latest made begins-round links joins ends first last answer start link join taken numbers sift largest takers first-move latest-start takes-at is-empty effect if-at line-at lines-to the-record walk left-in left millimetres half-way even-one nearest centimetres signed-decimal stage-text object-line action-text answer-text progress-text operation-line operation-lines spaced effect-text record-line record-lines left-line report
+unfolding put take below joined-records header stream traces replayed promised pick same less at upd word word-bytes text digits decimal block-size payload-size summed-size add-byte add-bytes sums block payload-of sum-differs misplaced block-refusal kind-number kinds look-up kind-of is-missing kind-found kind processes operations schedule-length record-at process action value scheduled slot-of process-of stream-length first-met any outside bad-kind bad-processes bad-operations bad-schedule-length exact-count bad-record bad-records bad-entry bad-schedule bad-padding header-conditions list-conditions most-file zeros block-at block-count payloads joined blocks padded file-of bad-length blocks-refusal bad-count stream-refusal file-refusal job-of fresh-memory set-from-to yes-if with-head with-tail with-top with-next with-mark with-upper row table position row-of successor end-of is-end ended first-row have-read have-set access seek operation-after before fresh-state reach registers reached row-after place-after resting acting dropping step state-after answer-at answer-of is-answer event-of is-round is-linked item-of moved-to idle acted note-next note earliest latest made begins-round links joins ends first last answer start link join taken dropped-next dropped drop numbers sift largest takers first-move latest-start takes-at is-empty effect if-at line-at lines-to the-record walk left-in left millimetres half-way even-one nearest centimetres signed-decimal stage-text object-line action-text answer-text end-text progress-text operation-line operation-lines spaced effect-text record-line record-lines left-line report
 traces-proved = refl

@@ -21,6 +21,7 @@ left-by-run {nodes′ = nodes′} {ops′} {by′} r lent kept ran behind =
     record {
       heading = r .told;
       few = few r;
+      short = omega (arith, short r);
       has-ops = omega (arith, few r, room .of-ops);
       has-nodes = omega (arith, few r, room .of-nodes);
       has-steps = omega (arith, short r, room .of-steps);

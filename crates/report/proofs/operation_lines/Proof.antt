@@ -30,12 +30,13 @@ operation-line-requires : tie.Need-operation-line-requires Inv-loop μ-loop
 operation-line-requires c κs =
     let pre = c .before .before .before .before .before .before .pre .0 in
     let job = job-of (c .before .before .before .before .before .before .args .stream .now) in
-    let same = line-is job (job .steps) (pre .3) (c .before .before .loop .o + 1) (record { from-one = omega arith; to-count = omega arith }) in
-    (in-stream _ _ (pre .0) (pre .1) (pre .2) (pre .3) _ (omega arith) (omega arith), omega (arith, ap length same, written-room (c .before .before .loop .inv) (search needs)))
+    let same = line-is job (job .steps) (pre .4) (c .before .before .loop .o + 1) (record { from-one = omega arith; to-count = omega arith }) (pre .2) in
+    (in-stream _ _ (pre .0) (pre .1) (pre .3) (pre .4) _ (omega arith) (omega arith), omega (arith, ap length same, written-room (c .before .before .loop .inv) (search needs)))
 
 loop-again : tie.Need-loop-again Inv-loop μ-loop
 loop-again c =
-    written-more (c .before .before .before .before .before .loop .inv) (search needs) (wrote-as (line-is _ _ (c .before .before .before .before .before .before .before .before .before .pre .0 .3) _ (record { from-one = omega arith; to-count = omega arith })) (search needs))
+    let pre = c .before .before .before .before .before .before .before .before .before .pre .0 in
+    written-more (c .before .before .before .before .before .loop .inv) (search needs) (wrote-as (line-is _ _ (pre .4) _ (record { from-one = omega arith; to-count = omega arith }) (pre .2)) (search needs))
 
 pub operation-lines-spec : {M : Type 1} → statement M
 operation-lines-spec =

@@ -16,7 +16,7 @@ object-line-requires c κs =
 operation-lines-requires : tie.Need-operation-lines-requires
 operation-lines-requires c κs =
     let all = parts (c .before .before .before .before .before .before .before .before .before .before .before .before .pre .2) (c .before .before .before .before .before .first-node .ensures) in
-    ((search needs, all .count, search needs, all .agrees), omega (arith, simp length-append at (ap length (all .whole))))
+    ((search needs, all .count, all .short, search needs, all .agrees), omega (arith, simp length-append at (ap length (all .whole))))
 
 record-lines-requires : tie.Need-record-lines-requires
 record-lines-requires c κs =
