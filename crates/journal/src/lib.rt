@@ -2,7 +2,6 @@
 ghost use mathlib.Core.Path.{_≡_};
 ghost use Prim.Native.Nat.{_<_, max};
 ghost use lib.ListN.{length};
-ghost use mathlib.Core.Bool.{not};
 ghost use Rattle.basics.specs.Choice.{same};
 ghost use Rattle.basics.specs.Maps.{at, upd};
 ghost use Rattle.rows.specs.Rows.{place, column};
@@ -81,12 +80,12 @@ pub fn enter(o: Operation, k: Step, ops: &mut [u16], by: &mut [u16])
     by[k.0 as usize] = o.0;
 }
 
-// Has operation o made a step?
-pub fn has_begun(o: Operation, ops: &[u16]) -> bool
+// Has operation o not made a step?
+pub fn is_waiting(o: Operation, ops: &[u16]) -> bool
     requires { ⌜ HasOps (o .0) (now ops) ⌝ }
-    ensures { λ r. ⌜ r ≡ not (same (cells (now (ops .entry)) First (o .0)) 0) ⌝ }
+    ensures { λ r. ⌜ r ≡ same (cells (now (ops .entry)) First (o .0)) 0 ⌝ }
 {
-    cell(ops, rows::OPS, o.0, rows::FIRST) != 0
+    cell(ops, rows::OPS, o.0, rows::FIRST) == 0
 }
 
 // Enters that operation o was dropped.

@@ -3,14 +3,16 @@ use mathlib.Core.Path.{_≡_, sym, ap, subst, _∙_}
 use Prim.Native.Nat.{ℕ, suc, _+_, _-_, _≤_, _<_}
 use native.Mathlib.Numerals.{add-one}
 use native.Mathlib.Omega.{arith}
-use mathlib.Core.Bool.{true, false}
+use mathlib.Core.Bool.{Bool, true, false}
 use mathlib.Core.List.{List}
 use lib.ListN.{length, getD, set}
+use Rattle.basics.specs.Choice.{same}
 use Rattle.basics.proofs.Choice.{pick-then, equal-same, lt-less, le-less}
 use Rattle.rows.specs.Rows as Rows
 use Rattle.rows.specs.Rows.{column}
 use Rattle.rows.specs.Nodes.{node-width, nexts}
-use Rattle.rows.specs.Operations.{HasOps, cells}
+use Rattle.rows.specs.Operations.{HasOps, cells, stored, dropped-mark}
+use Rattle.rows.specs.Operations.Column.{First, Last}
 use Rattle.rows.proofs.Operations.{by-column}
 use Rattle.job.specs.declared.Heading.{Heading}
 use Rattle.job.specs.declared.Process.{Process}
@@ -30,17 +32,18 @@ use Rattle.machine.specs.Explained.{IsOperation}
 use Rattle.machine.proofs.Bounds.{MemoryWithin, PlaceWithin, within, reached-within, item-within}
 use Rattle.machine.proofs.Stamps.{drop-zero, first-zero, last-zero, start-zero, link-zero, join-zero, taken-none}
 use Rattle.theory.proofs.Operations.{note-first}
+use Rattle.theory.proofs.Operations.Hands.{Idling}
 use Rattle.theory.proofs.TakesAt.{stands-zero}
 use Rattle.access.specs.Nodes.{memory-of}
 use Rattle.step.specs.declared.Stepped.{Stepped}
 use Rattle.step.specs.Promise.{IsStep, event-at}
 use Rattle.journal.specs.Journal.{held}
 use Rattle.journal.specs.Stored.{Stored}
-use Rattle.run.specs.Promise.{Runnable, Room, AllBlank, Ran, InPlace, nowhere, still, working, DropLeaves, Makes}
+use Rattle.run.specs.Promise.{Runnable, Room, AllBlank, Ran, InPlace, nowhere, still, working, Makes}
 use Rattle.run.proofs.Bounds.{its-count, few, short, entry-in-range}
 use Rattle.run.proofs.Places.{still-has, working-has, working-set}
 use Rattle.run.proofs.Turned.{made-from, followed, followed-ended, followed-going, followed-place, ran-idles, rest-idles, ran-acts, places-idle, places-act}
-use Rattle.run.proofs.Dropped.{ran-drops, places-drop}
+use Rattle.run.proofs.Dropped.{waits-idle, ran-drops, places-drop}
 
 -- lists keep their lengths
 pub record SameLengths (nodes ops by nodes′ ops′ by′ : List ℕ) : Type 0 where
@@ -129,16 +132,20 @@ module _ {stream : List ℕ} {job : Heading} (r : Runnable stream job) {k : ℕ}
   unfolding resting
   awake h = le-less (subst (λ (x : ℕ × Place). x .1 .operation .0 ≤ x .0) (λ i. (its-count r i, its-place i)) h)
 
-  pub turning-rests : job .count < place .operation .0 → Turning stream job (k + 1) places total head tail top nodes₀ ops₀ by₀ nodes ops by
-  turning-rests h =
+  -- nothing happens
+  turning-idles : Idling (job-of stream) k → Turning stream job (k + 1) places total head tail top nodes₀ ops₀ by₀ nodes ops by
+  turning-idles i =
       subst (λ x. Turning stream job x places total head tail top nodes₀ ops₀ by₀ nodes ops by) (sym (add-one k))
       (record {
         small = more;
-        in-place = places-idle (job-of stream) k (rest-idles (job-of stream) k (rests h)) (t .in-place);
+        in-place = places-idle (job-of stream) k i (t .in-place);
         counted = t .counted;
-        ran = ran-idles (job-of stream) k (rest-idles (job-of stream) k (rests h)) (t .ran);
+        ran = ran-idles (job-of stream) k i (t .ran);
         lengths = t .lengths;
       })
+
+  pub turning-rests : job .count < place .operation .0 → Turning stream job (k + 1) places total head tail top nodes₀ ops₀ by₀ nodes ops by
+  turning-rests h = turning-idles (rest-idles (job-of stream) k (rests h))
 
   m : Memory
   m = memory-of head tail top nodes
@@ -240,29 +247,38 @@ module _ {stream : List ℕ} {job : Heading} (r : Runnable stream job) {k : ℕ}
     turning-ends after stored over f = turning-acts after stored (followed-ended (job-of stream) p (place .operation) s over f)
 
   -- a drop
-  pub turning-drops : is-drop slot ≡ true → place .operation .0 ≤ job .count → {ops′ : List ℕ} (after : Place) {total′ : ℕ} → DropLeaves (job-of stream) p place ops after ops′ → total′ ≡ total - 1 + still (job .count) (after .operation .0) → length ops′ ≡ length ops → Turning stream job (k + 1) (set places p after) total′ head tail top nodes₀ ops₀ by₀ nodes ops′ by
-  turning-drops drops has {ops′} after {total′} left counts kept =
-      subst (λ x. Turning stream job x (set places p after) total′ head tail top nodes₀ ops₀ by₀ nodes ops′ by) (sym (add-one k))
-      (record {
-        small = more;
-        in-place = subst (λ x. InPlace j (suc k) (set places x after)) (sym p-is) (places-drop j k own drops-named held-in (t .ran) real places process-in-range (t .in-place));
-        counted =
-            omega (arith, t .counted, counted-in has, counts, working-set (job .count) places p after (subst (λ n. p < n) (sym (t .in-place .eight)) p-in-range), still-has (job .count) (place .operation .0) has);
-        ran = ran-drops j k own drops-named held-in (t .ran) real;
-        lengths = record { of-nodes = t .lengths .of-nodes; of-ops = kept ∙ t .lengths .of-ops; of-by = t .lengths .of-by };
-      })
-    where
-      j : Job
-      j = job-of stream
+  module _ (drops : is-drop slot ≡ true) (has : place .operation .0 ≤ job .count) where
+    abbrev own : Process
+    own = record { 0 = process }
 
-      own : Process
-      own = record { 0 = process }
+    drops-named : job-of stream .slot (suc k) ≡ Drops own
+    drops-named = slot-drops (job-of stream .slot (suc k)) (ap is-drop (sym named) ∙ drops)
 
-      drops-named : job-of stream .slot (suc k) ≡ Drops own
-      drops-named = slot-drops (job-of stream .slot (suc k)) (ap is-drop (sym named) ∙ drops)
+    held-in : state-after (job-of stream) k .places process .operation .0 ≤ job-of stream .count
+    held-in = subst (λ (x : ℕ × Place). x .1 .operation .0 ≤ x .0) (λ i. (its-count r i, its-place i)) has
 
-      held-in : state-after (job-of stream) k .places process .operation .0 ≤ job-of stream .count
-      held-in = subst (λ (x : ℕ × Place). x .1 .operation .0 ≤ x .0) (λ i. (its-count r i, its-place i)) has
+    -- whether it has begun, of the definition's place
+    its-first : {waits : Bool} → same (cells ops First (place .operation .0)) 0 ≡ waits → same (cells ops First (state-after (job-of stream) k .places process .operation .0)) 0 ≡ waits
+    its-first {waits} e = subst (λ (x : Place). same (cells ops First (x .operation .0)) 0 ≡ waits) its-place e
 
-      real : DropLeaves (job-of stream) process (state-after (job-of stream) k .places process) ops after ops′
-      real = subst (λ (x : ℕ × Place). DropLeaves (job-of stream) (x .0) (x .1) ops after ops′) (λ i. (p-is i, its-place i)) left
+    -- with none begun
+    pub turning-waits : same (cells ops First (place .operation .0)) 0 ≡ true → Turning stream job (k + 1) places total head tail top nodes₀ ops₀ by₀ nodes ops by
+    turning-waits e = turning-idles (waits-idle (job-of stream) k own drops-named held-in (t .ran) (its-first e))
+
+    pub turning-drops : same (cells ops First (place .operation .0)) 0 ≡ false → {ops′ : List ℕ} (after : Place) {total′ : ℕ} → after ≡ before (job-of stream) (operation-after (job-of stream) p (place .operation .0)) → cells ops′ ≡ stored Last (place .operation .0) dropped-mark (cells ops) → total′ ≡ total - 1 + still (job .count) (after .operation .0) → length ops′ ≡ length ops → Turning stream job (k + 1) (set places p after) total′ head tail top nodes₀ ops₀ by₀ nodes ops′ by
+    turning-drops begun {ops′} after {total′} next stores counts kept =
+        subst (λ x. Turning stream job x (set places p after) total′ head tail top nodes₀ ops₀ by₀ nodes ops′ by) (sym (add-one k))
+        (record {
+          small = more;
+          in-place =
+              subst (λ x. InPlace j (suc k) (set places x after)) (sym p-is)
+              (places-drop j k own drops-named held-in (t .ran) (its-first begun) places after process-in-range (t .in-place)
+              (subst (λ (x : ℕ × Place). after ≡ before j (operation-after j (x .0) (x .1 .operation .0))) (λ i. (p-is i, its-place i)) next));
+          counted =
+              omega (arith, t .counted, counted-in has, counts, working-set (job .count) places p after (subst (λ n. p < n) (sym (t .in-place .eight)) p-in-range), still-has (job .count) (place .operation .0) has);
+          ran = ran-drops j k own drops-named held-in (t .ran) (its-first begun) (subst (λ x. cells ops′ ≡ stored Last (x .operation .0) dropped-mark (cells ops)) its-place stores);
+          lengths = record { of-nodes = t .lengths .of-nodes; of-ops = kept ∙ t .lengths .of-ops; of-by = t .lengths .of-by };
+        })
+      where
+        j : Job
+        j = job-of stream

@@ -3,11 +3,10 @@ use mathlib.Core.Path.{_≡_}
 use Prim.Native.Nat.{ℕ, _+_, _<_}
 use mathlib.Core.List.{List, [], _∷_}
 use lib.ListN.{length, getD}
-use mathlib.Core.Bool.{Bool, false, not}
-use Rattle.basics.specs.Choice.{pick, same, less}
+use mathlib.Core.Bool.{false}
+use Rattle.basics.specs.Choice.{pick, less}
 use Rattle.basics.specs.Maps.{at}
-use Rattle.rows.specs.Operations.{HasOps, cells, stored, dropped-mark}
-use Rattle.rows.specs.Operations.Column.{First, Last}
+use Rattle.rows.specs.Operations.{HasOps}
 use Rattle.rows.specs.Nodes.{HasNodes}
 use Rattle.job.specs.declared.Heading.{Heading}
 use Rattle.job.specs.Limits.{field}
@@ -16,7 +15,7 @@ use Rattle.job.specs.Ready.{Ready}
 use Rattle.machine.specs.declared.Place.{Place}
 use Rattle.machine.specs.declared.Row.the-variants.{Q1}
 use Rattle.machine.specs.Table.{ended}
-use Rattle.machine.specs.Run.{before, operation-after, state-after}
+use Rattle.machine.specs.Run.{state-after}
 use Rattle.access.specs.Nodes.{memory-of}
 use Rattle.step.specs.Promise.{Inside, event-at}
 use Rattle.journal.specs.Stored.{HasCells}
@@ -64,16 +63,6 @@ pub record AllBlank (nodes ops by : List ℕ) : Type 0 where
   pub no-node : Blank nodes
   pub no-cell : Blank ops
   pub no-step : Blank by
-
--- has operation o a first step?
-abbrev pub has-begun : List ℕ → ℕ → Bool
-has-begun ops o = not (same (cells ops First o) 0)
-
--- what a drop by process p leaves of its place and of the rows: an operation that has begun is dropped, and the process stands before its
--- next; else nothing changes
-pub record DropLeaves (j : Job) (p : ℕ) (place : Place) (ops : List ℕ) (after : Place) (ops′ : List ℕ) : Type 0 where
-  pub place-after : after ≡ pick (has-begun ops (place .operation .0)) (before j (operation-after j p (place .operation .0))) place
-  pub cells-after : cells ops′ ≡ pick (has-begun ops (place .operation .0)) (stored Last (place .operation .0) dropped-mark (cells ops)) (cells ops)
 
 -- what step k of a place needs: its operation has not ended, and every list has what the step reads or stores
 pub record Makes (place : Place) (k head tail top : ℕ) (nodes ops by : List ℕ) : Type 0 where

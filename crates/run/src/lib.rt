@@ -12,7 +12,7 @@ use job::scheduled;
 use journal::enter;
 use journal::enter_drop;
 use journal::enter_end;
-use journal::has_begun;
+use journal::is_waiting;
 use machine::Finish;
 use machine::Place;
 use place::advanced;
@@ -30,8 +30,9 @@ ghost use Rattle.machine.specs.Run.{before, «operation-after»};
 ghost use Rattle.machine.specs.Idle.{IdleBehind};
 ghost use Rattle.step.specs.Promise.{IsStep, «event-at»};
 ghost use Rattle.journal.specs.Stored.{Stored};
-ghost use Rattle.rows.specs.Operations.{HasOps};
-ghost use Rattle.run.specs.Promise.{Runnable, InPlace, still, working, DropLeaves, Makes, Room, AllBlank, Ran};
+ghost use Rattle.rows.specs.Operations.{HasOps, cells, stored, dropped-mark};
+ghost use Rattle.rows.specs.Operations.Column.{Last};
+ghost use Rattle.run.specs.Promise.{Runnable, InPlace, still, working, Makes, Room, AllBlank, Ran};
 
 // The run state: "The eight places, one a process, go from step to step together".
 pub struct Run {
@@ -149,18 +150,14 @@ fn make(
     s
 }
 
-// The place of process p behind its drop. Document 02: "process p drops its begun operation, then stands before its next; with none begun it
-// is idle".
-fn drop_at(stream: &[u8], job: Heading, p: Process, place: Place, ops: &mut [u16]) -> Place
-    requires { ⌜ Runnable (now stream) job × (place .operation .0 ≤ job .count) × HasOps (place .operation .0) (now ops) ⌝ }
-    ensures { λ r. ⌜ DropLeaves (job-of (now (stream .entry))) (p .0) place (now (ops .entry)) r (now (ops .exit)) ⌝ }
+// Process p drops its operation o, and stands before its next.
+fn drop_at(stream: &[u8], job: Heading, p: Process, o: Operation, ops: &mut [u16]) -> Place
+    requires { ⌜ Runnable (now stream) job × (o .0 ≤ job .count) × HasOps (o .0) (now ops) ⌝ }
+    ensures { λ r. ⌜ r ≡ before (job-of (now (stream .entry))) (operation-after (job-of (now (stream .entry))) (p .0) (o .0)) ⌝ }
+    ensures { λ _. ⌜ cells (now (ops .exit)) ≡ stored Last (o .0) dropped-mark (cells (now (ops .entry))) ⌝ }
 {
-    let o = place.operation;
-    if has_begun(o, ops) {
-        enter_drop(o, ops);
-        return place_after(stream, job, p, o);
-    }
-    place
+    enter_drop(o, ops);
+    place_after(stream, job, p, o)
 }
 
 // Runs the whole schedule. The lent memory is blank; it is left with the nodes' rows and with the journal. The run is over when no process
@@ -197,7 +194,10 @@ pub fn run_all(
             continue;
         }
         if is_drop(slot) {
-            let after = drop_at(stream, job, p, place, ops);
+            if is_waiting(o, ops) {
+                continue;
+            }
+            let after = drop_at(stream, job, p, o, ops);
             run.places[i] = after;
             total = working_on(total, count, after.operation);
             if total == 0 {
