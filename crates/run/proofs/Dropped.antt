@@ -1,5 +1,5 @@
 -- A drop in the run's loop: what the code holds after k steps, with the drop, is what it holds after k + 1. Assumes nothing.
-use mathlib.Core.Path.{_≡_, sym, ap, _∙_}
+use mathlib.Core.Path.{_≡_, sym, ap, subst, _∙_}
 use Prim.Native.Nat.{ℕ, suc, _≤_, _<_}
 use native.Mathlib.Omega.{arith}
 use mathlib.Core.Bool.{Bool, true, false, not}
@@ -21,9 +21,14 @@ use Rattle.theory.proofs.Operations.{passes}
 use Rattle.theory.proofs.Operations.Locals.{memory}
 use Rattle.theory.proofs.Operations.Hands.{Idling}
 use Rattle.theory.proofs.Operations.Drops.{begun-first}
+use Rattle.journal.specs.Journal.{Agrees, Holds}
 use Rattle.journal.proofs.Whole.{holds-drops}
 use Rattle.run.specs.Promise.{InPlace, Ran}
 use Rattle.run.proofs.Turned.{places-set}
+
+-- rows that say the same hold the same journal
+pub holds-same : {j : Job} {k : ℕ} {ops ops′ by : List ℕ} → cells ops′ ≡ cells ops → Holds j k ops by → Holds j k ops′ by
+holds-same {j} {k} e h = record { agrees = subst (Agrees j k) (sym e) (h .agrees); by-at = h .by-at; by-later = h .by-later }
 
 -- process p is to drop
 module _ (j : Job) (k : ℕ) (p : Process) (named : j .slot (suc k) ≡ Drops p) where

@@ -3,7 +3,7 @@ use mathlib.Core.Path.{_≡_, sym, ap, subst, _∙_}
 use Prim.Native.Nat.{ℕ, suc, _+_, _-_, _≤_, _<_}
 use native.Mathlib.Numerals.{add-one}
 use native.Mathlib.Omega.{arith}
-use mathlib.Core.Bool.{Bool, true, false}
+use mathlib.Core.Bool.{Bool, true, false, true≢false}
 use mathlib.Core.List.{List}
 use lib.ListN.{length, getD, set}
 use Rattle.basics.specs.Choice.{same}
@@ -11,7 +11,7 @@ use Rattle.basics.proofs.Choice.{pick-then, equal-same, lt-less, le-less}
 use Rattle.rows.specs.Rows as Rows
 use Rattle.rows.specs.Rows.{column}
 use Rattle.rows.specs.Nodes.{node-width, nexts}
-use Rattle.rows.specs.Operations.{HasOps, cells, stored, dropped-mark}
+use Rattle.rows.specs.Operations.{cells, stored, dropped-mark}
 use Rattle.rows.specs.Operations.Column.{First, Last}
 use Rattle.rows.proofs.Operations.{by-column}
 use Rattle.job.specs.declared.Heading.{Heading}
@@ -39,11 +39,13 @@ use Rattle.step.specs.declared.Stepped.{Stepped}
 use Rattle.step.specs.Promise.{IsStep, event-at}
 use Rattle.journal.specs.Journal.{held}
 use Rattle.journal.specs.Stored.{Stored}
-use Rattle.run.specs.Promise.{Runnable, Room, AllBlank, Ran, InPlace, nowhere, still, working, Makes}
+use Rattle.run.specs.Promise.{Runnable, Room, AllBlank, Ran, InPlace, nowhere, still, working, DropLeaves, TurnLeaves, Makes}
+use Rattle.run.specs.Promise.DropLeaves.{waits, drops}
+use Rattle.run.specs.Promise.TurnLeaves.{stepped, dropped}
 use Rattle.run.proofs.Bounds.{its-count, few, short, entry-in-range}
 use Rattle.run.proofs.Places.{still-has, working-has, working-set}
-use Rattle.run.proofs.Turned.{made-from, followed, followed-ended, followed-going, followed-place, ran-idles, rest-idles, ran-acts, places-idle, places-act}
-use Rattle.run.proofs.Dropped.{waits-idle, ran-drops, places-drop}
+use Rattle.run.proofs.Turned.{made-from, followed, followed-ended, followed-going, followed-place, ran-idles, rest-idles, ran-acts, places-idle, places-stay, places-act}
+use Rattle.run.proofs.Dropped.{holds-same, waits-idle, ran-drops, places-drop}
 
 -- lists keep their lengths
 pub record SameLengths (nodes ops by nodes′ ops′ by′ : List ℕ) : Type 0 where
@@ -189,10 +191,6 @@ module _ {stream : List ℕ} {job : Heading} (r : Runnable stream job) {k : ℕ}
         entering = omega (arith, short r, room .of-steps);
       }
 
-  -- a drop's row is there
-  pub drop-room : Room nodes₀ ops₀ by₀ → place .operation .0 ≤ job .count → HasOps (place .operation .0) ops
-  drop-room lent h = omega (arith, few r, room-kept (t .lengths) lent .of-ops)
-
   -- one that has operations is among those counted
   pub counted-in : place .operation .0 ≤ job .count → 1 ≤ total
   counted-in h =
@@ -235,7 +233,7 @@ module _ {stream : List ℕ} {job : Heading} (r : Runnable stream job) {k : ℕ}
         real = subst (λ x. IsStep x head tail top nodes s nodes′) its-place is
 
     -- a step after which the operation goes on
-    pub turning-goes : {ops′ by′ : List ℕ} (after : Place) → Stored (event-at place head tail top nodes) (ended (s .row)) (place .operation .0) (k + 1) ops by ops′ by′ → ended (s .row) ≡ false → after ≡ record { operation = place .operation; row = s .row; h = s .h; t = s .t; n = s .n } → SameLengths nodes ops by nodes′ ops′ by′ → Turning stream job (k + 1) (set places p after) total (s .head) (s .tail) (s .top) nodes₀ ops₀ by₀ nodes′ ops′ by′
+    turning-goes : {ops′ by′ : List ℕ} (after : Place) → Stored (event-at place head tail top nodes) (ended (s .row)) (place .operation .0) (k + 1) ops by ops′ by′ → ended (s .row) ≡ false → after ≡ record { operation = place .operation; row = s .row; h = s .h; t = s .t; n = s .n } → SameLengths nodes ops by nodes′ ops′ by′ → Turning stream job (k + 1) (set places p after) total (s .head) (s .tail) (s .top) nodes₀ ops₀ by₀ nodes′ ops′ by′
     turning-goes after stored on f kept =
         turning-acts after stored (followed-going (job-of stream) p (place .operation) s on f)
         (let same : after .operation .0 ≡ place .operation .0 = ap (λ (q : Place). q .operation .0) f in
@@ -243,7 +241,7 @@ module _ {stream : List ℕ} {job : Heading} (r : Runnable stream job) {k : ℕ}
         kept
 
     -- a step at which it ends
-    pub turning-ends : {ops′ by′ : List ℕ} (after : Place) {total′ : ℕ} → Stored (event-at place head tail top nodes) (ended (s .row)) (place .operation .0) (k + 1) ops by ops′ by′ → ended (s .row) ≡ true → after ≡ before (job-of stream) (operation-after (job-of stream) p (place .operation .0)) → total′ ≡ total - 1 + still (job .count) (after .operation .0) → SameLengths nodes ops by nodes′ ops′ by′ → Turning stream job (k + 1) (set places p after) total′ (s .head) (s .tail) (s .top) nodes₀ ops₀ by₀ nodes′ ops′ by′
+    turning-ends : {ops′ by′ : List ℕ} (after : Place) {total′ : ℕ} → Stored (event-at place head tail top nodes) (ended (s .row)) (place .operation .0) (k + 1) ops by ops′ by′ → ended (s .row) ≡ true → after ≡ before (job-of stream) (operation-after (job-of stream) p (place .operation .0)) → total′ ≡ total - 1 + still (job .count) (after .operation .0) → SameLengths nodes ops by nodes′ ops′ by′ → Turning stream job (k + 1) (set places p after) total′ (s .head) (s .tail) (s .top) nodes₀ ops₀ by₀ nodes′ ops′ by′
     turning-ends after stored over f = turning-acts after stored (followed-ended (job-of stream) p (place .operation) s over f)
 
   -- a drop
@@ -262,10 +260,27 @@ module _ {stream : List ℕ} {job : Heading} (r : Runnable stream job) {k : ℕ}
     its-first {waits} e = subst (λ (x : Place). same (cells ops First (x .operation .0)) 0 ≡ waits) its-place e
 
     -- with none begun
-    pub turning-waits : same (cells ops First (place .operation .0)) 0 ≡ true → Turning stream job (k + 1) places total head tail top nodes₀ ops₀ by₀ nodes ops by
-    turning-waits e = turning-idles (waits-idle (job-of stream) k own drops-named held-in (t .ran) (its-first e))
+    turning-waits : same (cells ops First (place .operation .0)) 0 ≡ true → {ops′ : List ℕ} (after : Place) → after ≡ place → cells ops′ ≡ cells ops → length ops′ ≡ length ops → Turning stream job (k + 1) (set places p after) total head tail top nodes₀ ops₀ by₀ nodes ops′ by
+    turning-waits e {ops′} after stays rows kept =
+        subst (λ x. Turning stream job x (set places p after) total head tail top nodes₀ ops₀ by₀ nodes ops′ by) (sym (add-one k))
+        (record {
+          small = more;
+          in-place = subst (λ x. InPlace j (suc k) (set places x after)) (sym p-is) (places-stay j k idling places process after process-in-range (t .in-place) (stays ∙ its-place));
+          counted =
+              (let here : still (job .count) (after .operation .0) ≡ still (job .count) (place .operation .0) = ap (λ (x : Place). still (job .count) (x .operation .0)) stays in
+              omega (arith, t .counted, working-set (job .count) places p after (subst (λ n. p < n) (sym (t .in-place .eight)) p-in-range)));
+          ran = ran-idles j k idling (record { memory = t .ran .memory; journal = holds-same rows (t .ran .journal) });
+          lengths = record { of-nodes = t .lengths .of-nodes; of-ops = kept ∙ t .lengths .of-ops; of-by = t .lengths .of-by };
+        })
+      where
+        j : Job
+        j = job-of stream
 
-    pub turning-drops : same (cells ops First (place .operation .0)) 0 ≡ false → {ops′ : List ℕ} (after : Place) {total′ : ℕ} → after ≡ before (job-of stream) (operation-after (job-of stream) p (place .operation .0)) → cells ops′ ≡ stored Last (place .operation .0) dropped-mark (cells ops) → total′ ≡ total - 1 + still (job .count) (after .operation .0) → length ops′ ≡ length ops → Turning stream job (k + 1) (set places p after) total′ head tail top nodes₀ ops₀ by₀ nodes ops′ by
+        idling : Idling (job-of stream) k
+        idling = waits-idle (job-of stream) k own drops-named held-in (t .ran) (its-first e)
+
+    -- with one begun
+    turning-drops : same (cells ops First (place .operation .0)) 0 ≡ false → {ops′ : List ℕ} (after : Place) {total′ : ℕ} → after ≡ before (job-of stream) (operation-after (job-of stream) p (place .operation .0)) → cells ops′ ≡ stored Last (place .operation .0) dropped-mark (cells ops) → total′ ≡ total - 1 + still (job .count) (after .operation .0) → length ops′ ≡ length ops → Turning stream job (k + 1) (set places p after) total′ head tail top nodes₀ ops₀ by₀ nodes ops′ by
     turning-drops begun {ops′} after {total′} next stores counts kept =
         subst (λ x. Turning stream job x (set places p after) total′ head tail top nodes₀ ops₀ by₀ nodes ops′ by) (sym (add-one k))
         (record {
@@ -282,3 +297,15 @@ module _ {stream : List ℕ} {job : Heading} (r : Runnable stream job) {k : ℕ}
       where
         j : Job
         j = job-of stream
+
+  -- a turn that ends the operation in hand, by its last step or by a drop
+  pub turning-over : {over : Bool} {s : Stepped} {nodes′ ops′ by′ : List ℕ} (after : Place) {total′ : ℕ} → TurnLeaves slot place (k + 1) head tail top nodes ops by over s nodes′ ops′ by′ → over ≡ true → place .operation .0 ≤ job .count → after ≡ before (job-of stream) (operation-after (job-of stream) p (place .operation .0)) → total′ ≡ total - 1 + still (job .count) (after .operation .0) → SameLengths nodes ops by nodes′ ops′ by′ → Turning stream job (k + 1) (set places p after) total′ (s .head) (s .tail) (s .top) nodes₀ ops₀ by₀ nodes′ ops′ by′
+  turning-over after (stepped acts over-is is stores) over has f counts kept = turning-ends acts has is after stores (sym over-is ∙ over) f counts kept
+  turning-over after (dropped is-dropped (waits w e)) over has f counts kept = absurd (true≢false (sym over))
+  turning-over after (dropped is-dropped (drops b e)) over has f counts kept = turning-drops is-dropped has b after f e counts (kept .of-ops)
+
+  -- a turn after which it goes on, or has not begun
+  pub turning-on : {over : Bool} {s : Stepped} {nodes′ ops′ by′ : List ℕ} (after : Place) → TurnLeaves slot place (k + 1) head tail top nodes ops by over s nodes′ ops′ by′ → over ≡ false → place .operation .0 ≤ job .count → after ≡ record { operation = place .operation; row = s .row; h = s .h; t = s .t; n = s .n } → SameLengths nodes ops by nodes′ ops′ by′ → Turning stream job (k + 1) (set places p after) total (s .head) (s .tail) (s .top) nodes₀ ops₀ by₀ nodes′ ops′ by′
+  turning-on after (stepped acts over-is is stores) over has f kept = turning-goes acts has is after stores (sym over-is ∙ over) f kept
+  turning-on after (dropped is-dropped (waits w e)) over has f kept = turning-waits is-dropped has w after f e (kept .of-ops)
+  turning-on after (dropped is-dropped (drops b e)) over has f kept = absurd (true≢false over)

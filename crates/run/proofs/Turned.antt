@@ -10,7 +10,7 @@ use lib.Seq.{getD-set-same, getD-set-other}
 use Rattle.basics.specs.Choice.{pick}
 use Rattle.basics.specs.Maps.{upd}
 use Rattle.basics.proofs.Choice.{both, split, less-lt, pick-then, pick-else}
-use Rattle.basics.proofs.Maps.{upd-here, upd-there}
+use Rattle.basics.proofs.Maps.{upd-here, upd-there, upd-id}
 use Rattle.job.specs.Limits.{field}
 use Rattle.job.specs.declared.Operation as Machine
 use Rattle.job.specs.declared.Process.{Process}
@@ -113,6 +113,12 @@ places-set j k places p q in-range l e =
         ∙ sym (now p ∙ upd-here _ p _))
     go r h (inr there) =
         getD-set-other places p r q nowhere there ∙ l .each r h ∙ sym (now r ∙ upd-there _ p _ there)
+
+-- the same place, where nothing happens
+pub places-stay : (j : Job) (k : ℕ) → Idling j k → (places : List Place) (p : ℕ) (q : Place) → p < field .processes → InPlace j k places → q ≡ state-after j k .places p → InPlace j (suc k) (set places p q)
+places-stay j k i places p q in-range l e =
+    places-set j k places p q in-range l
+    (ap (λ (s : State). s .places) (i .state) ∙ sym (upd-id (state-after j k .places) p) ∙ ap (upd (state-after j k .places) p) (sym e))
 
 -- process p steps
 module _ (j : Job) (k : ℕ) (p : Process) (named : j .slot (suc k) ≡ Acts p) where

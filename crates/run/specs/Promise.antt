@@ -3,13 +3,16 @@ use mathlib.Core.Path.{_≡_}
 use Prim.Native.Nat.{ℕ, _+_, _<_}
 use mathlib.Core.List.{List, [], _∷_}
 use lib.ListN.{length, getD}
-use mathlib.Core.Bool.{false}
-use Rattle.basics.specs.Choice.{pick, less}
+use mathlib.Core.Bool.{Bool, true, false}
+use Rattle.basics.specs.Choice.{pick, same, less}
 use Rattle.basics.specs.Maps.{at}
-use Rattle.rows.specs.Operations.{HasOps}
+use Rattle.rows.specs.Operations.{HasOps, cells, stored, dropped-mark}
+use Rattle.rows.specs.Operations.Column.{First, Last}
 use Rattle.rows.specs.Nodes.{HasNodes}
 use Rattle.job.specs.declared.Heading.{Heading}
+use Rattle.job.specs.declared.Slot.{Slot}
 use Rattle.job.specs.Limits.{field}
+use Rattle.job.specs.Slot.{is-drop}
 use Rattle.job.specs.Job.{Job, job-of, heading-of}
 use Rattle.job.specs.Ready.{Ready}
 use Rattle.machine.specs.declared.Place.{Place}
@@ -17,8 +20,9 @@ use Rattle.machine.specs.declared.Row.the-variants.{Q1}
 use Rattle.machine.specs.Table.{ended}
 use Rattle.machine.specs.Run.{state-after}
 use Rattle.access.specs.Nodes.{memory-of}
-use Rattle.step.specs.Promise.{Inside, event-at}
-use Rattle.journal.specs.Stored.{HasCells}
+use Rattle.step.specs.declared.Stepped.{Stepped}
+use Rattle.step.specs.Promise.{Inside, event-at, IsStep}
+use Rattle.journal.specs.Stored.{Stored, HasCells}
 use Rattle.journal.specs.Journal.{Holds}
 
 -- what a run needs of its stream: it is ready, and its heading is told
@@ -63,6 +67,20 @@ pub record AllBlank (nodes ops by : List ℕ) : Type 0 where
   pub no-node : Blank nodes
   pub no-cell : Blank ops
   pub no-step : Blank by
+
+-- a place and an object's cells, as a step would give them
+abbrev pub as-it-was : Place → ℕ → ℕ → ℕ → Stepped
+as-it-was place head tail top = record { row = place .row; h = place .h; t = place .t; n = place .n; head = head; tail = tail; top = top }
+
+-- what a drop at a place leaves in its operation's row, by whether that has begun: the operation is over, or nothing changed
+pub data DropLeaves (place : Place) (head tail top : ℕ) (ops : List ℕ) : Bool → Stepped → List ℕ → Type 0 where
+  waits : {ops′ : List ℕ} → same (cells ops First (place .operation .0)) 0 ≡ true → cells ops′ ≡ cells ops → DropLeaves place head tail top ops false (as-it-was place head tail top) ops′
+  drops : {ops′ : List ℕ} → same (cells ops First (place .operation .0)) 0 ≡ false → cells ops′ ≡ stored Last (place .operation .0) dropped-mark (cells ops) → DropLeaves place head tail top ops true (as-it-was place head tail top) ops′
+
+-- what a turn of a place leaves: what its step does, or what its drop does, which touches no node and enters no step
+pub data TurnLeaves (slot : Slot) (place : Place) (k head tail top : ℕ) (nodes ops by : List ℕ) : Bool → Stepped → List ℕ → List ℕ → List ℕ → Type 0 where
+  stepped : {over : Bool} {s : Stepped} {nodes′ ops′ by′ : List ℕ} → is-drop slot ≡ false → over ≡ ended (s .row) → IsStep place head tail top nodes s nodes′ → Stored (event-at place head tail top nodes) (ended (s .row)) (place .operation .0) k ops by ops′ by′ → TurnLeaves slot place k head tail top nodes ops by over s nodes′ ops′ by′
+  dropped : {over : Bool} {s : Stepped} {ops′ : List ℕ} → is-drop slot ≡ true → DropLeaves place head tail top ops over s ops′ → TurnLeaves slot place k head tail top nodes ops by over s nodes ops′ by
 
 -- what step k of a place needs: its operation has not ended, and every list has what the step reads or stores
 pub record Makes (place : Place) (k head tail top : ℕ) (nodes ops by : List ℕ) : Type 0 where

@@ -5,6 +5,7 @@ use job::Heading;
 use job::Limits;
 use job::Operation;
 use job::Process;
+use job::Slot;
 use job::Step;
 use job::is_drop;
 use job::process_of;
@@ -30,9 +31,8 @@ ghost use Rattle.machine.specs.Run.{before, «operation-after»};
 ghost use Rattle.machine.specs.Idle.{IdleBehind};
 ghost use Rattle.step.specs.Promise.{IsStep, «event-at»};
 ghost use Rattle.journal.specs.Stored.{Stored};
-ghost use Rattle.rows.specs.Operations.{HasOps, cells, stored, dropped-mark};
-ghost use Rattle.rows.specs.Operations.Column.{Last};
-ghost use Rattle.run.specs.Promise.{Runnable, InPlace, still, working, Makes, Room, AllBlank, Ran};
+ghost use Rattle.rows.specs.Operations.{HasOps};
+ghost use Rattle.run.specs.Promise.{Runnable, InPlace, still, working, DropLeaves, TurnLeaves, Makes, Room, AllBlank, Ran};
 
 // The run state: "The eight places, one a process, go from step to step together".
 pub struct Run {
@@ -150,14 +150,59 @@ fn make(
     s
 }
 
-// Process p drops its operation o, and stands before its next.
-fn drop_at(stream: &[u8], job: Heading, p: Process, o: Operation, ops: &mut [u16]) -> Place
-    requires { ⌜ Runnable (now stream) job × (o .0 ≤ job .count) × HasOps (o .0) (now ops) ⌝ }
-    ensures { λ r. ⌜ r ≡ before (job-of (now (stream .entry))) (operation-after (job-of (now (stream .entry))) (p .0) (o .0)) ⌝ }
-    ensures { λ _. ⌜ cells (now (ops .exit)) ≡ stored Last (o .0) dropped-mark (cells (now (ops .entry))) ⌝ }
+// What a turn of a place leaves: whether its operation is over, and the place's row and registers and the object's cells.
+struct Turn {
+    over: bool,
+    left: Stepped,
+}
+
+// A drop at a place. Document 02: "process p drops its begun operation, then stands before its next; with none begun it is idle".
+fn drop_at(place: Place, head: u16, tail: u16, top: u16, ops: &mut [u16]) -> Turn
+    requires { ⌜ HasOps (place .operation .0) (now ops) ⌝ }
+    ensures { λ r. ⌜ DropLeaves place head tail top (now (ops .entry)) (r .over) (r .left) (now (ops .exit)) ⌝ }
 {
+    let o = place.operation;
+    let row = place.row;
+    let left = Stepped {
+        row,
+        h: place.h,
+        t: place.t,
+        n: place.n,
+        head,
+        tail,
+        top,
+    };
+    if is_waiting(o, ops) {
+        return Turn { over: false, left };
+    }
     enter_drop(o, ops);
-    place_after(stream, job, p, o)
+    Turn { over: true, left }
+}
+
+// The turn of a place at step k: its step, or its drop.
+fn take_turn(
+    slot: Slot,
+    place: Place,
+    k: Step,
+    head: u16,
+    tail: u16,
+    top: u16,
+    nodes: &mut [u16],
+    ops: &mut [u16],
+    by: &mut [u16],
+) -> Turn
+    requires { ⌜ Makes place (k .0) head tail top (now nodes) (now ops) (now by) ⌝ }
+    ensures { λ r. ⌜ TurnLeaves slot place (k .0) head tail top (now (nodes .entry)) (now (ops .entry)) (now (by .entry)) (r .over) (r .left) (now (nodes .exit)) (now (ops .exit)) (now (by .exit)) ⌝ }
+{
+    if is_drop(slot) {
+        return drop_at(place, head, tail, top, ops);
+    }
+    let left = make(place, k, head, tail, top, nodes, ops, by);
+    let row = left.row;
+    Turn {
+        over: has_ended(row),
+        left,
+    }
 }
 
 // Runs the whole schedule. The lent memory is blank; it is left with the nodes' rows and with the journal. The run is over when no process
@@ -193,29 +238,12 @@ pub fn run_all(
         if count < o.0 {
             continue;
         }
-        if is_drop(slot) {
-            if is_waiting(o, ops) {
-                continue;
-            }
-            let after = drop_at(stream, job, p, o, ops);
-            run.places[i] = after;
-            total = working_on(total, count, after.operation);
-            if total == 0 {
-                return Finish {
-                    head,
-                    tail,
-                    top,
-                    reach: Step(k),
-                };
-            }
-            continue;
-        }
-        let s = make(place, Step(k), head, tail, top, nodes, ops, by);
+        let turned = take_turn(slot, place, Step(k), head, tail, top, nodes, ops, by);
+        let s = turned.left;
         head = s.head;
         tail = s.tail;
         top = s.top;
-        let row = s.row;
-        if has_ended(row) {
+        if turned.over {
             let after = place_after(stream, job, p, o);
             run.places[i] = after;
             total = working_on(total, count, after.operation);
@@ -229,6 +257,7 @@ pub fn run_all(
             }
             continue;
         }
+        let row = s.row;
         let after = advanced(place, row, s.h, s.t, s.n);
         run.places[i] = after;
     }

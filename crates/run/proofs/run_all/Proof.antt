@@ -8,7 +8,7 @@ use Prim.Native.Nat.{_-_}
 use Rattle.job.specs.Job.{job-of}
 use Rattle.run.proofs.Bounds.{its-count, short, entry-read}
 use Rattle.run.proofs.Places.{each-rests}
-use Rattle.run.proofs.Loop.{Turning, ran-at-start, p-in-range, turning-rests, drop-room, makes, counted-in, turning-goes, turning-ends, turning-waits, turning-drops, finished}
+use Rattle.run.proofs.Loop.{Turning, ran-at-start, p-in-range, turning-rests, makes, counted-in, turning-over, turning-on, finished}
 use Rattle.run.proofs.Settled.{ran-to-end, idle-behind, none-behind}
 use Rattle.run.proofs.run_all.Statement.{statement}
 use Rattle.run.proofs.run_all.Tie as tie
@@ -60,133 +60,77 @@ loop-again c =
     let here = c .before .before .before .before .before in
     turning-rests (here .before .before .before .before .before .before .before .before .before .before .before .pre .0) (here .before .before .before .loop .inv) (here .before .before .loop-test .taken) (here .before .scheduled .ensures) _ (here .process-of .ensures) (c .if1 .taken)
 
--- a drop
-is-waiting-requires : tie.Need-is-waiting-requires Inv-loop μ-loop
-is-waiting-requires c κs =
+take-turn-requires : tie.Need-take-turn-requires Inv-loop μ-loop
+take-turn-requires c κs =
     let here = c .before .before .before .before .before .before .before .before in
-    drop-room (here .before .before .before .before .before .before .before .before .before .before .before .pre .0) (here .before .before .before .loop .inv) (here .before .before .loop-test .taken) (here .before .scheduled .ensures) _ (here .process-of .ensures) (here .before .before .before .before .before .before .before .before .before .before .before .pre .1 .0) (c .before .before .before .if1 .left)
+    makes (here .before .before .before .before .before .before .before .before .before .before .before .pre .0) (here .before .before .before .loop .inv) (here .before .before .loop-test .taken) (here .before .scheduled .ensures) _ (here .process-of .ensures) (here .before .before .before .before .before .before .before .before .before .before .before .pre .1 .0) (c .before .before .before .if1 .left)
 
-loop-again-2 : tie.Need-loop-again-2 Inv-loop μ-loop
-loop-again-2 c =
-    let here = c .before .before .before .before .before .before .before .before .before .before in
-    turning-waits (here .before .before .before .before .before .before .before .before .before .before .before .pre .0) (here .before .before .before .loop .inv) (here .before .before .loop-test .taken) (here .before .scheduled .ensures) _ (here .process-of .ensures) (sym (c .before .before .before .before .is-drop .ensures) ∙ c .before .before .before .if2 .taken) (c .before .before .before .before .before .if1 .left) (sym (c .before .is-waiting .ensures) ∙ c .if3 .taken)
-
-drop-at-requires : tie.Need-drop-at-requires Inv-loop μ-loop
-drop-at-requires c κs =
-    let here = c .before .before .before .before .before .before .before .before .before .before .before in
-    let has = c .before .before .before .before .before .before .if1 .left in
-    (here .before .before .before .before .before .before .before .before .before .before .before .pre .0, has, drop-room (here .before .before .before .before .before .before .before .before .before .before .before .pre .0) (here .before .before .before .loop .inv) (here .before .before .loop-test .taken) (here .before .scheduled .ensures) _ (here .process-of .ensures) (here .before .before .before .before .before .before .before .before .before .before .before .pre .1 .0) has)
+place-after-requires : tie.Need-place-after-requires Inv-loop μ-loop
+place-after-requires c κs = (c .before .before .before .before .before .before .before .before .before .before .before .before .before .before .before .before .before .before .before .before .before .before .before .before .before .before .before .before .pre .0, c .before .before .before .before .before .before .before .before .before .before .before .before .if1 .left)
 
 mul-after : tie.Need-mul-after Inv-loop μ-loop
 mul-after c =
-    let here = c .before .before .before .before .before .before .before .before .before .before .before .before .before .before in
+    let here = c .before .before .before .before .before .before .before .before .before .before .before .before .before .before .before .before .before .before in
+    omega (arith, p-in-range (here .before .before .before .before .before .before .before .before .before .before .before .pre .0) (here .before .before .before .loop .inv) (here .before .before .loop-test .taken) (here .before .scheduled .ensures) _ (here .process-of .ensures))
+
+mul-after-2 : tie.Need-mul-after-2 Inv-loop μ-loop
+mul-after-2 c =
+    let here = c .before .before .before .before .before .before .before .before .before .before .before .before .before .before .before .before .before .before in
     omega (arith, p-in-range (here .before .before .before .before .before .before .before .before .before .before .before .pre .0) (here .before .before .before .loop .inv) (here .before .before .loop-test .taken) (here .before .scheduled .ensures) _ (here .process-of .ensures))
 
 element-set-from-after : tie.Need-element-set-from-after Inv-loop μ-loop
 element-set-from-after c =
-    let here = c .before .before .before .before .before .before .before .before .before .before .before .before .before .before in
+    let here = c .before .before .before .before .before .before .before .before .before .before .before .before .before .before .before .before .before .before in
+    p-in-range (here .before .before .before .before .before .before .before .before .before .before .before .pre .0) (here .before .before .before .loop .inv) (here .before .before .loop-test .taken) (here .before .scheduled .ensures) _ (here .process-of .ensures)
+
+element-set-from-after-2 : tie.Need-element-set-from-after-2 Inv-loop μ-loop
+element-set-from-after-2 c =
+    let here = c .before .before .before .before .before .before .before .before .before .before .before .before .before .before .before .before .before .before in
     p-in-range (here .before .before .before .before .before .before .before .before .before .before .before .pre .0) (here .before .before .before .loop .inv) (here .before .before .loop-test .taken) (here .before .scheduled .ensures) _ (here .process-of .ensures)
 
 working-on-requires : tie.Need-working-on-requires Inv-loop μ-loop
 working-on-requires c κs =
-    let here = c .before .before .before .before .before .before .before .before .before .before .before .before .before .before in
-    counted-in (here .before .before .before .before .before .before .before .before .before .before .before .pre .0) (here .before .before .before .loop .inv) (here .before .before .loop-test .taken) (here .before .scheduled .ensures) _ (here .process-of .ensures) (c .before .before .before .before .before .before .before .before .before .if1 .left)
+    let here = c .before .before .before .before .before .before .before .before .before .before .before .before .before .before .before .before .before .before in
+    counted-in (here .before .before .before .before .before .before .before .before .before .before .before .pre .0) (here .before .before .before .loop .inv) (here .before .before .loop-test .taken) (here .before .scheduled .ensures) _ (here .process-of .ensures) (c .before .before .before .before .before .before .before .before .before .before .before .before .before .if1 .left)
 
 returns : tie.Need-returns Inv-loop μ-loop
 returns c =
-    let here = c .before .before .before .before .before .before .before .before .before .before .before .before .before .before .before .before in
-    let drop = c .before .before .before .before in
+    let here = c .before .before .before .before .before .before .before .before .before .before .before .before .before .before .before .before .before .before .before .before in
+    let made = c .before .before .before .before .before .before .before .before .before .before .before in
+    let kept = made .take-turn .kept .1 .1 .1 .1 .1 .1 in
     let turned =
-    turning-drops (here .before .before .before .before .before .before .before .before .before .before .before .pre .0) (here .before .before .before .loop .inv) (here .before .before .loop-test .taken) (here .before .scheduled .ensures) _ (here .process-of .ensures) (sym (c .before .before .before .before .before .before .before .before .before .before .is-drop .ensures) ∙ c .before .before .before .before .before .before .before .before .before .if2 .taken) (c .before .before .before .before .before .before .before .before .before .before .before .if1 .left) (sym (c .before .before .before .before .before .before .before .is-waiting .ensures) ∙ c .before .before .before .before .before .before .if3 .left)
-    (drop .drop-at .result) (drop .drop-at .ensures .0) (drop .drop-at .ensures .1) (c .before .working-on .ensures) (drop .drop-at .kept .1 .1 .1 .1 .0) in
-    let rest = each-rests _ _ (turned .in-place .eight) (sym (turned .counted) ∙ c .if4 .taken) in
+    turning-over (here .before .before .before .before .before .before .before .before .before .before .before .pre .0) (here .before .before .before .loop .inv) (here .before .before .loop-test .taken) (here .before .scheduled .ensures) _ (here .process-of .ensures) (c .before .before .place-after .result) (made .take-turn .ensures) (c .before .before .before .if2 .taken) (c .before .before .before .before .before .before .before .before .before .before .before .before .before .before .before .if1 .left)
+    (c .before .before .place-after .ensures) (c .before .working-on .ensures) (record { of-nodes = kept .0; of-ops = kept .1 .0; of-by = kept .1 .1 .0 }) in
+    let rest = each-rests _ _ (turned .in-place .eight) (sym (turned .counted) ∙ c .if3 .taken) in
     (ran-to-end (here .before .before .before .before .before .before .before .before .before .before .before .pre .0) turned rest, idle-behind (here .before .before .before .before .before .before .before .before .before .before .before .pre .0) turned rest)
+
+loop-again-2 : tie.Need-loop-again-2 Inv-loop μ-loop
+loop-again-2 c =
+    let here = c .before .before .before .before .before .before .before .before .before .before .before .before .before .before .before .before .before .before .before .before in
+    let made = c .before .before .before .before .before .before .before .before .before .before .before in
+    let kept = made .take-turn .kept .1 .1 .1 .1 .1 .1 in
+    turning-over (here .before .before .before .before .before .before .before .before .before .before .before .pre .0) (here .before .before .before .loop .inv) (here .before .before .loop-test .taken) (here .before .scheduled .ensures) _ (here .process-of .ensures) (c .before .before .place-after .result) (made .take-turn .ensures) (c .before .before .before .if2 .taken) (c .before .before .before .before .before .before .before .before .before .before .before .before .before .before .before .if1 .left)
+    (c .before .before .place-after .ensures) (c .before .working-on .ensures) (record { of-nodes = kept .0; of-ops = kept .1 .0; of-by = kept .1 .1 .0 })
 
 loop-again-3 : tie.Need-loop-again-3 Inv-loop μ-loop
 loop-again-3 c =
-    let here = c .before .before .before .before .before .before .before .before .before .before .before .before .before .before .before .before in
-    let drop = c .before .before .before .before in
-    turning-drops (here .before .before .before .before .before .before .before .before .before .before .before .pre .0) (here .before .before .before .loop .inv) (here .before .before .loop-test .taken) (here .before .scheduled .ensures) _ (here .process-of .ensures) (sym (c .before .before .before .before .before .before .before .before .before .before .is-drop .ensures) ∙ c .before .before .before .before .before .before .before .before .before .if2 .taken) (c .before .before .before .before .before .before .before .before .before .before .before .if1 .left) (sym (c .before .before .before .before .before .before .before .is-waiting .ensures) ∙ c .before .before .before .before .before .before .if3 .left)
-    (drop .drop-at .result) (drop .drop-at .ensures .0) (drop .drop-at .ensures .1) (c .before .working-on .ensures) (drop .drop-at .kept .1 .1 .1 .1 .0)
+    let here = c .before .before .before .before .before .before .before .before .before .before .before .before .before .before .before .before .before .before in
+    let made = c .before .before .before .before .before .before .before .before .before in
+    let kept = made .take-turn .kept .1 .1 .1 .1 .1 .1 in
+    turning-on (here .before .before .before .before .before .before .before .before .before .before .before .pre .0) (here .before .before .before .loop .inv) (here .before .before .loop-test .taken) (here .before .scheduled .ensures) _ (here .process-of .ensures) (c .advanced .result) (made .take-turn .ensures) (c .before .if2 .left) (c .before .before .before .before .before .before .before .before .before .before .before .before .before .if1 .left)
+    (c .advanced .ensures) (record { of-nodes = kept .0; of-ops = kept .1 .0; of-by = kept .1 .1 .0 })
 
--- a step
-make-requires : tie.Need-make-requires Inv-loop μ-loop
-make-requires c κs =
-    let here = c .before .before .before .before .before .before .before .before .before .before in
-    makes (here .before .before .before .before .before .before .before .before .before .before .before .pre .0) (here .before .before .before .loop .inv) (here .before .before .loop-test .taken) (here .before .scheduled .ensures) _ (here .process-of .ensures) (here .before .before .before .before .before .before .before .before .before .before .before .pre .1 .0) (c .before .before .before .before .before .if1 .left)
+same-length : tie.Need-same-length Inv-loop μ-loop
+same-length c = c .before .before .before .before .before .before .before .before .before .before .before .take-turn .kept .1 .1 .1 .1 .1 .1 .0 ∙ c .before .before .before .before .before .before .before .before .before .before .before .before .before .before .before .before .before .before .before .before .before .before .before .loop .inv .lengths .of-nodes
 
-place-after-requires : tie.Need-place-after-requires Inv-loop μ-loop
-place-after-requires c κs = (c .before .before .before .before .before .before .before .before .before .before .before .before .before .before .before .before .before .before .before .before .before .before .before .before .before .before .before .before .before .before .pre .0, c .before .before .before .before .before .before .before .before .before .before .before .before .before .before .if1 .left)
+same-length-2 : tie.Need-same-length-2 Inv-loop μ-loop
+same-length-2 c = c .before .before .before .before .before .before .before .before .before .before .before .take-turn .kept .1 .1 .1 .1 .1 .1 .1 .0 ∙ c .before .before .before .before .before .before .before .before .before .before .before .before .before .before .before .before .before .before .before .before .before .before .before .loop .inv .lengths .of-ops
 
-mul-after-2 : tie.Need-mul-after-2 Inv-loop μ-loop
-mul-after-2 c =
-    let here = c .before .before .before .before .before .before .before .before .before .before .before .before .before .before .before .before .before .before .before .before in
-    omega (arith, p-in-range (here .before .before .before .before .before .before .before .before .before .before .before .pre .0) (here .before .before .before .loop .inv) (here .before .before .loop-test .taken) (here .before .scheduled .ensures) _ (here .process-of .ensures))
-
-mul-after-3 : tie.Need-mul-after-3 Inv-loop μ-loop
-mul-after-3 c =
-    let here = c .before .before .before .before .before .before .before .before .before .before .before .before .before .before .before .before .before .before .before .before in
-    omega (arith, p-in-range (here .before .before .before .before .before .before .before .before .before .before .before .pre .0) (here .before .before .before .loop .inv) (here .before .before .loop-test .taken) (here .before .scheduled .ensures) _ (here .process-of .ensures))
-
-element-set-from-after-2 : tie.Need-element-set-from-after-2 Inv-loop μ-loop
-element-set-from-after-2 c =
-    let here = c .before .before .before .before .before .before .before .before .before .before .before .before .before .before .before .before .before .before .before .before in
-    p-in-range (here .before .before .before .before .before .before .before .before .before .before .before .pre .0) (here .before .before .before .loop .inv) (here .before .before .loop-test .taken) (here .before .scheduled .ensures) _ (here .process-of .ensures)
-
-element-set-from-after-3 : tie.Need-element-set-from-after-3 Inv-loop μ-loop
-element-set-from-after-3 c =
-    let here = c .before .before .before .before .before .before .before .before .before .before .before .before .before .before .before .before .before .before .before .before in
-    p-in-range (here .before .before .before .before .before .before .before .before .before .before .before .pre .0) (here .before .before .before .loop .inv) (here .before .before .loop-test .taken) (here .before .scheduled .ensures) _ (here .process-of .ensures)
-
-working-on-requires-2 : tie.Need-working-on-requires-2 Inv-loop μ-loop
-working-on-requires-2 c κs =
-    let here = c .before .before .before .before .before .before .before .before .before .before .before .before .before .before .before .before .before .before .before .before in
-    counted-in (here .before .before .before .before .before .before .before .before .before .before .before .pre .0) (here .before .before .before .loop .inv) (here .before .before .loop-test .taken) (here .before .scheduled .ensures) _ (here .process-of .ensures) (c .before .before .before .before .before .before .before .before .before .before .before .before .before .before .before .if1 .left)
+same-length-3 : tie.Need-same-length-3 Inv-loop μ-loop
+same-length-3 c = c .before .before .before .before .before .before .before .before .before .before .before .take-turn .kept .1 .1 .1 .1 .1 .1 .1 .1 .0 ∙ c .before .before .before .before .before .before .before .before .before .before .before .before .before .before .before .before .before .before .before .before .before .before .before .loop .inv .lengths .of-by
 
 returns-2 : tie.Need-returns-2 Inv-loop μ-loop
 returns-2 c =
-    let here = c .before .before .before .before .before .before .before .before .before .before .before .before .before .before .before .before .before .before .before .before .before .before in
-    let made = c .before .before .before .before .before .before .before .before .before .before .before in
-    let kept = made .make .kept .1 .1 .1 .1 .1 in
-    let turned =
-    turning-ends (here .before .before .before .before .before .before .before .before .before .before .before .pre .0) (here .before .before .before .loop .inv) (here .before .before .loop-test .taken) (here .before .scheduled .ensures) _ (here .process-of .ensures) (sym (c .before .before .before .before .before .before .before .before .before .before .before .before .before .before .before .before .is-drop .ensures) ∙ c .before .before .before .before .before .before .before .before .before .before .before .before .before .before .before .if2 .left) (c .before .before .before .before .before .before .before .before .before .before .before .before .before .before .before .before .before .if1 .left) (made .make .ensures .0)
-    (c .before .before .place-after .result) (made .make .ensures .1) (sym (c .before .before .before .before .has-ended .ensures) ∙ c .before .before .before .if5 .taken) (c .before .before .place-after .ensures)
-    (c .before .working-on2 .ensures) (record { of-nodes = kept .0; of-ops = kept .1 .0; of-by = kept .1 .1 .0 }) in
-    let rest = each-rests _ _ (turned .in-place .eight) (sym (turned .counted) ∙ c .if6 .taken) in
-    (ran-to-end (here .before .before .before .before .before .before .before .before .before .before .before .pre .0) turned rest, idle-behind (here .before .before .before .before .before .before .before .before .before .before .before .pre .0) turned rest)
-
-loop-again-4 : tie.Need-loop-again-4 Inv-loop μ-loop
-loop-again-4 c =
-    let here = c .before .before .before .before .before .before .before .before .before .before .before .before .before .before .before .before .before .before .before .before .before .before in
-    let made = c .before .before .before .before .before .before .before .before .before .before .before in
-    let kept = made .make .kept .1 .1 .1 .1 .1 in
-    turning-ends (here .before .before .before .before .before .before .before .before .before .before .before .pre .0) (here .before .before .before .loop .inv) (here .before .before .loop-test .taken) (here .before .scheduled .ensures) _ (here .process-of .ensures) (sym (c .before .before .before .before .before .before .before .before .before .before .before .before .before .before .before .before .is-drop .ensures) ∙ c .before .before .before .before .before .before .before .before .before .before .before .before .before .before .before .if2 .left) (c .before .before .before .before .before .before .before .before .before .before .before .before .before .before .before .before .before .if1 .left) (made .make .ensures .0)
-    (c .before .before .place-after .result) (made .make .ensures .1) (sym (c .before .before .before .before .has-ended .ensures) ∙ c .before .before .before .if5 .taken) (c .before .before .place-after .ensures)
-    (c .before .working-on2 .ensures) (record { of-nodes = kept .0; of-ops = kept .1 .0; of-by = kept .1 .1 .0 })
-
-loop-again-5 : tie.Need-loop-again-5 Inv-loop μ-loop
-loop-again-5 c =
-    let here = c .before .before .before .before .before .before .before .before .before .before .before .before .before .before .before .before .before .before .before .before in
-    let made = c .before .before .before .before .before .before .before .before .before in
-    let kept = made .make .kept .1 .1 .1 .1 .1 in
-    turning-goes (here .before .before .before .before .before .before .before .before .before .before .before .pre .0) (here .before .before .before .loop .inv) (here .before .before .loop-test .taken) (here .before .scheduled .ensures) _ (here .process-of .ensures) (sym (c .before .before .before .before .before .before .before .before .before .before .before .before .before .before .is-drop .ensures) ∙ c .before .before .before .before .before .before .before .before .before .before .before .before .before .if2 .left) (c .before .before .before .before .before .before .before .before .before .before .before .before .before .before .before .if1 .left) (made .make .ensures .0)
-    (c .advanced .result) (made .make .ensures .1) (sym (c .before .before .has-ended .ensures) ∙ c .before .if5 .left) (c .advanced .ensures)
-    (record { of-nodes = kept .0; of-ops = kept .1 .0; of-by = kept .1 .1 .0 })
-
-same-length-4 : tie.Need-same-length-4 Inv-loop μ-loop
-same-length-4 c = c .before .before .before .before .before .before .before .before .before .before .before .make .kept .1 .1 .1 .1 .1 .0 ∙ c .before .before .before .before .before .before .before .before .before .before .before .before .before .before .before .before .before .before .before .before .before .before .before .before .before .loop .inv .lengths .of-nodes
-
-same-length-5 : tie.Need-same-length-5 Inv-loop μ-loop
-same-length-5 c = c .before .before .before .before .before .before .before .before .before .before .before .make .kept .1 .1 .1 .1 .1 .1 .0 ∙ c .before .before .before .before .before .before .before .before .before .before .before .before .before .before .before .before .before .before .before .before .before .before .before .before .before .loop .inv .lengths .of-ops
-
-same-length-6 : tie.Need-same-length-6 Inv-loop μ-loop
-same-length-6 c = c .before .before .before .before .before .before .before .before .before .before .before .make .kept .1 .1 .1 .1 .1 .1 .1 .0 ∙ c .before .before .before .before .before .before .before .before .before .before .before .before .before .before .before .before .before .before .before .before .before .before .before .before .before .loop .inv .lengths .of-by
-
-same-length-2 : tie.Need-same-length-2 Inv-loop μ-loop
-same-length-2 c = c .before .before .before .before .drop-at .kept .1 .1 .1 .1 .0 ∙ c .before .before .before .before .before .before .before .before .before .before .before .before .before .before .before .before .before .before .before .loop .inv .lengths .of-ops
-
-returns-3 : tie.Need-returns-3 Inv-loop μ-loop
-returns-3 c =
     let loop = c .before .loop in
     (finished (loop .inv) (c .loop-test .left), none-behind _ (loop .inv .small) (c .loop-test .left))
 
@@ -195,7 +139,8 @@ run-all-spec =
     tie.close
     (tie.spec
     Inv-loop μ-loop (λ c κs. c .before .before .before .before .pre .0) (λ c κs. c .line-up .ensures .eight) (λ c κs. search needs) loop-holds add-k scheduled-requires
-    (λ c κs. tt) cast-i mul-place element-copy-out-place (λ c. omega (arith, c .before .before .before .before .before .before .before .loop-test .taken)) loop-again (λ c κs. tt) is-waiting-requires (λ c. omega (arith, c .before .before .before .before .before .before .before .before .before .before .before .before .loop-test .taken)) loop-again-2 drop-at-requires mul-after element-set-from-after working-on-requires
-    (λ c. c .before .before .before .before .before .before .before .before .before .before .before .before .before .before .before .before .before .before .before .loop .inv .lengths .of-nodes) same-length-2 (λ c. c .before .before .before .before .before .before .before .before .before .before .before .before .before .before .before .before .before .before .before .loop .inv .lengths .of-by) returns (λ c. omega (arith, c .before .before .before .before .before .before .before .before .before .before .before .before .before .before .before .before .before .before .loop-test .taken)) loop-again-3
-    make-requires (λ c κs. search needs) place-after-requires mul-after-2 element-set-from-after-2 working-on-requires-2 same-length-4 same-length-5 same-length-6 returns-2 (λ c. omega (arith, c .before .before .before .before .before .before .before .before .before .before .before .before .before .before .before .before .before .before .before .before .before .before .before .before .loop-test .taken)) loop-again-4
-    (λ c κs. search needs) mul-after-3 element-set-from-after-3 (λ c. omega (arith, c .before .before .before .before .before .before .before .before .before .before .before .before .before .before .before .before .before .before .before .before .before .before .loop-test .taken)) loop-again-5 (λ c. c .before .loop .inv .lengths .of-nodes) (λ c. c .before .loop .inv .lengths .of-ops) (λ c. c .before .loop .inv .lengths .of-by) returns-3)
+    (λ c κs. tt) cast-i mul-place element-copy-out-place (λ c. omega (arith, c .before .before .before .before .before .before .before .loop-test .taken)) loop-again take-turn-requires
+    place-after-requires mul-after element-set-from-after working-on-requires same-length same-length-2 same-length-3 returns
+    (λ c. omega (arith, c .before .before .before .before .before .before .before .before .before .before .before .before .before .before .before .before .before .before .before .before .before .before .loop-test .taken)) loop-again-2
+    (λ c κs. search needs) mul-after-2 element-set-from-after-2 (λ c. omega (arith, c .before .before .before .before .before .before .before .before .before .before .before .before .before .before .before .before .before .before .before .before .loop-test .taken)) loop-again-3
+    (λ c. c .before .loop .inv .lengths .of-nodes) (λ c. c .before .loop .inv .lengths .of-ops) (λ c. c .before .loop .inv .lengths .of-by) returns-2)
