@@ -89,7 +89,12 @@ pub entry-byte : (s : List ℕ) (k : ℕ) {place n : ℕ} → place ≡ 5 + 4 * 
 unfolding scheduled at
 entry-byte s k from count = ap (λ (x : ℕ). getD s (x + k) 0) (from ∙ ap (λ (x : ℕ). 5 + 4 * x) count)
 
--- what the code finds of an entry is what number 11 says of it
-pub entry-told : (s : List ℕ) (k : ℕ) {entry n : ℕ} {r : Bool} → entry ≡ scheduled s k → n ≡ processes s → r ≡ not (less (process-of (slot-of entry)) n) → r ≡ bad-entry s k
-unfolding bad-entry
-entry-told s k own all e = e ∙ (λ i. not (less (process-of (slot-of (own i))) (all i)))
+-- an entry of the schedule likewise
+module _ (s : List ℕ) (k : ℕ) {p n : ℕ} (own : p ≡ process-of (slot-of (scheduled s k))) (all : n ≡ processes s) where
+  pub entry-met : n ≤ p → bad-entry s k ≡ true
+  unfolding bad-entry
+  entry-met h = simp (← own, ← all, le-less h)
+
+  pub entry-passed : p < n → bad-entry s k ≡ false
+  unfolding bad-entry
+  entry-passed h = simp (← own, ← all, lt-less h)

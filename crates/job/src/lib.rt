@@ -2,10 +2,8 @@
 use block::Checked;
 use memory::word_at;
 ghost use mathlib.Core.Path.{_≡_};
-ghost use mathlib.Core.Bool.{not};
 ghost use Prim.Native.Nat.{_+_, _*_, _≤_, _<_};
 ghost use lib.ListN.{length};
-ghost use Rattle.basics.specs.Choice.{less};
 ghost use Rattle.job.specs.Limits.{field, most-file, most-stream, Sound};
 ghost use Rattle.job.specs.Kind.{kind-of};
 ghost use Rattle.job.specs.Slot.{slot-of, process-of, is-drop};
@@ -355,20 +353,6 @@ fn bad_records(s: &[u8]) -> bool
     false
 }
 
-// Is an entry of the schedule out of range, for so many processes? One that is a process of the job, and so no drop, is told at once.
-fn bad_entry(entry: u8, processes: u8) -> bool
-    ensures { λ r. ⌜ r ≡ not (less (process-of (slot-of entry)) processes) ⌝ }
-{
-    if entry < processes {
-        return false;
-    }
-    let p = process_of(slot_of(entry));
-    if p.0 < processes {
-        return false;
-    }
-    true
-}
-
 // Is an entry of the schedule out of range?
 fn bad_schedule(s: &[u8]) -> bool
     requires { ⌜ stream-length (now s) ≤ length (now s) ⌝ }
@@ -379,7 +363,8 @@ fn bad_schedule(s: &[u8]) -> bool
     let processes = processes(s);
     let mut k: usize = 1;
     while k < end {
-        if bad_entry(s[place + k], processes) {
+        let p = process_of(slot_of(s[place + k]));
+        if p.0 >= processes {
             return true;
         }
         k += 1;
