@@ -39,7 +39,7 @@ use Rattle.step.specs.declared.Stepped.{Stepped}
 use Rattle.step.specs.Promise.{IsStep, event-at}
 use Rattle.journal.specs.Journal.{held}
 use Rattle.journal.specs.Stored.{Stored}
-use Rattle.run.specs.Promise.{Runnable, Room, AllBlank, Ran, InPlace, nowhere, still, working, DropLeaves, TurnLeaves, Makes}
+use Rattle.run.specs.Promise.{Runnable, Room, AllBlank, Ran, InPlace, nowhere, still, working, TurnLeaves, Makes}
 use Rattle.run.specs.Promise.DropLeaves.{waits, drops}
 use Rattle.run.specs.Promise.TurnLeaves.{stepped, dropped}
 use Rattle.run.proofs.Bounds.{its-count, few, short, entry-in-range}
