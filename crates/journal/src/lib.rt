@@ -14,14 +14,24 @@ use machine::Event;
 use rows::cell;
 use rows::store;
 
-// Stores a step in a cell that has none yet.
+// The step that a cell keeps: the one that it has, or k if it has none.
+fn earlier(old: u16, k: Step) -> u16
+    ensures { λ r. ⌜ r ≡ earlier old (k .0) ⌝ }
+{
+    if old == 0 {
+        return k.0;
+    }
+    old
+}
+
+// Stores a step in a cell that has none yet. The cell is stored to either way, so that compiled code need not guess which.
 fn store_first(ops: &mut [u16], i: u16, f: usize, k: Step)
     requires { ⌜ (f < op-width) × HasOps i (now ops) ⌝ }
     ensures { λ _. ⌜ at (now (ops .exit)) ≡ upd (at (now (ops .entry))) (place op-width i f) (earlier (column op-width f (at (now (ops .entry))) i) (k .0)) ⌝ }
 {
-    if cell(ops, rows::OPS, i, f) == 0 {
-        store(ops, rows::OPS, i, f, k.0);
-    }
+    let old = cell(ops, rows::OPS, i, f);
+    let first = earlier(old, k);
+    store(ops, rows::OPS, i, f, first);
 }
 
 // Stores a step in a cell whose step is not later.
