@@ -1,12 +1,13 @@
 -- Every register and every cell of a run holds a number of 0 to N, every operation in hand one of 1 to N + 1, and no place stands at an
 -- end: all that the safety of code needs. Assumes nothing.
-use mathlib.Core.Path.{_≡_, sym}
+use mathlib.Core.Path.{_≡_, sym, subst}
+use mathlib.Core.Logic.{_⊎_, inl, inr}
 use Prim.Native.Nat.{ℕ, zero, suc, _-_, _≤_, zero-le}
 use native.Mathlib.Omega.{arith}
 use mathlib.Core.Bool.{Bool, true, false, true≢false}
 use Rattle.basics.specs.Choice.{pick, same}
 use Rattle.basics.specs.Maps.{upd}
-use Rattle.basics.proofs.Choice.{pick-elim, less-le}
+use Rattle.basics.proofs.Choice.{both, pick-elim, less-le}
 use Rattle.basics.proofs.Maps.{upd-elim}
 use Rattle.job.specs.declared.Slot.{Slot}
 use Rattle.job.specs.declared.Slot.the-variants.{Acts, Drops}
@@ -23,6 +24,7 @@ use Rattle.machine.specs.Run.{State, operation-after, before, fresh-stat
 use Rattle.machine.specs.Notes.{event-of}
 use Rattle.machine.specs.Journal.{item-of}
 use Rattle.machine.proofs.Searches.{seek-from, seek-to}
+use Rattle.machine.proofs.Slots.{dropping-stays, dropping-drops}
 use Rattle.machine.proofs.ByKind.{begins-going}
 
 -- every cell of shared memory holds at most N
@@ -178,20 +180,25 @@ module _ (j : Job) where
       })
 
   dropping-within : (process : ℕ) (s : State) → Within j s → Within j (dropping j process s)
-  unfolding dropping
-  dropping-within process s w =
-      let o : ℕ = s .places process .operation .0 in
-      pick-elim (Within j) _ _ _
-      (λ drops.
-      record {
-        memory = w .memory;
-        place = λ q.
-            upd-elim (PlaceWithin (j .count)) (s .places) process _ q
-            (λ here. before-within process o (w .begun o drops))
-            (λ there. w .place q);
-        begun = w .begun;
-      })
-      (λ stays. w)
+  dropping-within process s w = by-begun (both (s .begun (s .places process .operation .0)))
+    where
+      o : ℕ
+      o = s .places process .operation .0
+
+      left : s .begun o ≡ true → Within j (record { memory = s .memory; places = upd (s .places) process (before j (operation-after j process o)); begun = s .begun })
+      left drops =
+          record {
+            memory = w .memory;
+            place = λ q.
+                upd-elim (PlaceWithin (j .count)) (s .places) process (before j (operation-after j process o)) q
+                (λ here. before-within process o (w .begun o drops))
+                (λ there. w .place q);
+            begun = w .begun;
+          }
+
+      by-begun : (s .begun o ≡ true) ⊎ (s .begun o ≡ false) → Within j (dropping j process s)
+      by-begun (inl drops) = subst (Within j) (sym (dropping-drops j process s drops)) (left drops)
+      by-begun (inr stays) = subst (Within j) (sym (dropping-stays j process s stays)) w
 
   step-within : (slot : Slot) (s : State) → Within j s → Within j (step j slot s)
   unfolding step

@@ -13,7 +13,7 @@ use Rattle.machine.specs.declared.Row.{Row}
 use Rattle.machine.specs.Access.{Registers, Reached}
 use Rattle.machine.specs.Table.{End, end-of, is-end, ended}
 use Rattle.machine.specs.Table.End.{no-end, with-done, with-n, with-t, with-empty}
-use Rattle.machine.specs.Run.{operation-after, before, reached, place-after, resting, acting, dropping, step, state-after}
+use Rattle.machine.specs.Run.{State, operation-after, before, reached, place-after, resting, acting, dropping, step, state-after}
 use Rattle.machine.specs.Notes.{answer-at, answer-of, is-answer, idle, acted, note-next, note}
 use Rattle.machine.specs.Drops.{dropped-next, dropped}
 
@@ -29,6 +29,16 @@ answers-with with-empty g = refl
 pub answers-at-end : (r : Row) (g : Registers) → is-answer (answer-of r g) ≡ ended r
 unfolding answer-of ended
 answers-at-end r g = answers-with (end-of r) g
+
+-- what a drop leaves of a state. "with none begun it is idle"
+pub dropping-stays : (j : Job) (process : ℕ) (s : State) → s .begun (s .places process .operation .0) ≡ false → dropping j process s ≡ s
+unfolding dropping
+dropping-stays j process s e = pick-else _ _ e
+
+-- "drops its begun operation, then stands before its next"
+pub dropping-drops : (j : Job) (process : ℕ) (s : State) → s .begun (s .places process .operation .0) ≡ true → dropping j process s ≡ record { memory = s .memory; places = upd (s .places) process (before j (operation-after j process (s .places process .operation .0))); begun = s .begun }
+unfolding dropping
+dropping-drops j process s e = pick-then _ _ e
 
 module _ (j : Job) (k : ℕ) (p : Process) where
   -- the place of the process that is named, and what its step reaches
@@ -87,8 +97,7 @@ module _ (j : Job) (k : ℕ) (p : Process) where
 
     -- it has none begun: the state stays
     pub state-stays : state-after j k .begun (its-place .operation .0) ≡ false → state-after j (suc k) ≡ state-after j k
-    unfolding dropping
-    state-stays e = drops-state ∙ pick-else _ _ e
+    state-stays e = drops-state ∙ dropping-stays j (p .0) (state-after j k) e
 
     pub drops-none : state-after j k .begun (its-place .operation .0) ≡ false → dropped j (suc k) ≡ 0
     unfolding dropped-next
@@ -96,8 +105,7 @@ module _ (j : Job) (k : ℕ) (p : Process) where
 
     -- it has: the process stands before its next
     pub state-drops : state-after j k .begun (its-place .operation .0) ≡ true → state-after j (suc k) ≡ record { memory = state-after j k .memory; places = upd (state-after j k .places) (p .0) (before j (operation-after j (p .0) (its-place .operation .0))); begun = state-after j k .begun }
-    unfolding dropping
-    state-drops e = drops-state ∙ pick-then _ _ e
+    state-drops e = drops-state ∙ dropping-drops j (p .0) (state-after j k) e
 
     pub drops-one : state-after j k .begun (its-place .operation .0) ≡ true → dropped j (suc k) ≡ its-place .operation .0
     unfolding dropped-next

@@ -7,7 +7,7 @@ use mathlib.Core.List.{List, _++_, append-assoc}
 use lib.ListN.{length}
 use Rattle.basics.specs.Choice.{pick, same}
 use Rattle.basics.specs.Text.{text, decimal}
-use Rattle.basics.proofs.Choice.{pick-then, pick-else, equal-same, unequal-same, split}
+use Rattle.basics.proofs.Choice.{split}
 use Rattle.rows.specs.Operations.{HasOps, Cells, cells, dropped-mark}
 use Rattle.rows.specs.Operations.Column.{First, Last, Link, Taken}
 use Rattle.job.specs.Stream.{record-at, stream-length}
@@ -17,6 +17,7 @@ use Rattle.machine.specs.Journal.{first, last, taken, answer}
 use Rattle.machine.specs.Explained.{IsOperation}
 use Rattle.theory.proofs.Life.{operation-some}
 use Rattle.wording.specs.Report.{answer-text, end-text, progress-text, operation-line, operation-lines}
+use Rattle.wording.proofs.Endings.{ended-reads, open-reads, dropped-reads}
 use Rattle.text.proofs.Each.{each-to}
 use Rattle.journal.specs.Journal.{Agrees}
 use Rattle.lines.specs.Told.{said, InStream, front-text, answer-told, end-told, progress-told, line-told}
@@ -37,19 +38,19 @@ module _ (j : Job) (k : ℕ) {c : Cells} (h : Agrees j k c) (o : ℕ) (op : IsOp
   module _ (short : k < dropped-mark) where
     -- what follows `first`, behind the first step
     end-is : end-told j c o ≡ text " last " ++ end-text j k o
-    unfolding end-text text
+    unfolding text
     end-is = by-ending (ends j k o short (operation-some op)) (h Last o op)
       where
         by-ending : {n : ℕ} → Ends j k o n → c Last o ≡ n → end-told j c o ≡ text " last " ++ end-text j k o
         by-ending (stays-open z d) e =
-            sym (end-of-open j c o e) ∙ ap (λ l. text " last " ++ l) (sym (pick-then _ _ (equal-same z) ∙ pick-then _ _ (equal-same d)))
+            sym (end-of-open j c o e) ∙ ap (λ l. text " last " ++ l) (sym (open-reads j k o z d))
         by-ending (was-dropped z d) e =
-            sym (end-of-dropped j c o e) ∙ ap (λ l. text " last " ++ l) (sym (pick-then _ _ (equal-same z) ∙ pick-else _ _ (unequal-same d)))
+            sym (end-of-dropped j c o e) ∙ ap (λ l. text " last " ++ l) (sym (dropped-reads j k o z d))
         by-ending (has-ended z m) e =
             sym (end-of-ended j c o (sym e) z m)
             ∙ append-assoc (text " last ") (decimal (last (note j) k o)) _
             ∙ ap (λ l. text " last " ++ (decimal (last (note j) k o) ++ l)) (answer-is z)
-            ∙ ap (λ l. text " last " ++ l) (sym (pick-else _ _ (unequal-same z)))
+            ∙ ap (λ l. text " last " ++ l) (sym (ended-reads j k o z))
 
     progress-is : progress-told j c o ≡ progress-text j k o
     unfolding progress-told progress-text

@@ -1,14 +1,14 @@
 -- How long the report is: at most 23 bytes and 102 for each operation, if numbers have the digits that an accepted job's have. Assumes
 -- nothing.
-use mathlib.Core.Path.{_≡_, refl, subst}
-use mathlib.Core.Logic.{_≢_}
+use mathlib.Core.Path.{_≡_, refl, ap, subst}
+use mathlib.Core.Logic.{_≢_, _⊎_, inl, inr}
 use Prim.Native.Nat.{ℕ, zero, suc, _+_, _*_, _≤_, _<_}
 use mathlib.Core.List.{List, [], _∷_, _++_, List·Memᴰ, List·Memᴰ·head, List·Memᴰ·tail}
 use native.Mathlib.Omega.{arith}
 use lib.ListN.{length, length-append}
-use Rattle.basics.specs.Choice.{pick, same}
+use Rattle.basics.specs.Choice.{same}
 use Rattle.basics.specs.Text.{text, decimal}
-use Rattle.basics.proofs.Choice.{pick-elim, same-unequal}
+use Rattle.basics.proofs.Choice.{pick-elim, split}
 use Rattle.basics.proofs.Text.{decimal-length}
 use Rattle.stage.specs.Printed.{stage-text}
 use Rattle.stage.proofs.Printing.{stage-length}
@@ -27,6 +27,7 @@ use Rattle.wording.specs.Report.{object-line, action-text, answer-text, 
 use Rattle.machine.proofs.Stamps.{first-le, last-le}
 use Rattle.machine.proofs.Placed.{Placed, placed}
 use Rattle.theory.proofs.Theorem.{explained}
+use Rattle.wording.proofs.Endings.{ended-reads, open-reads, dropped-reads}
 use Rattle.wording.proofs.Sizes.Items.{FromPuts, handed-out}
 use Rattle.wording.proofs.Sizes.Members.{all-members, has-members, members-count, line-from-puts, left-operation, left-count}
 pub mod Items
@@ -96,11 +97,19 @@ module _ (j : Job) (fits : Fits j) where
         go line b e Says.says-empty s = let z : _≡_ {A = ℕ} 0 1 = cc in absurd (omega arith)
 
     end-length : (o : ℕ) → IsOperation (j .count) o → length (end-text j (j .steps) o) ≤ 26
-    unfolding end-text text
-    end-length o op =
-        pick-elim (λ l. length l ≤ 26) (same (last (note j) (j .steps) o) 0) (pick (same (drop j (j .steps) o) 0) (text "- open") (text "- dropped")) (decimal (last (note j) (j .steps) o) ++ answer-text j (answer (note j) (j .steps) o))
-        (λ t. pick-elim (λ l. length l ≤ 26) (same (drop j (j .steps) o) 0) (text "- open") (text "- dropped") (λ d. omega arith) (λ d. omega arith))
-        (λ t. simp length-append (omega (arith, step-length (last (note j) (j .steps) o) (last-le (note j) (j .steps) o), answer-length (answer (note j) (j .steps) o) (λ n a. answer-operation o n op (same-unequal t) a))))
+    unfolding text
+    end-length o op = by-last (split (last (note j) (j .steps) o) 0) (split (drop j (j .steps) o) 0)
+      where
+        by-last : (last (note j) (j .steps) o ≡ 0) ⊎ (last (note j) (j .steps) o ≢ 0) → (drop j (j .steps) o ≡ 0) ⊎ (drop j (j .steps) o ≢ 0) → length (end-text j (j .steps) o) ≤ 26
+        by-last (inl z) (inl d) = omega (arith, ap length (open-reads j (j .steps) o z d))
+        by-last (inl z) (inr d) = omega (arith, ap length (dropped-reads j (j .steps) o z d))
+        by-last (inr n) d =
+            omega (
+              arith,
+              simp length-append at (ap length (ended-reads j (j .steps) o n)),
+              step-length (last (note j) (j .steps) o) (last-le (note j) (j .steps) o),
+              answer-length (answer (note j) (j .steps) o) (λ i a. answer-operation o i op n a),
+            )
 
     progress-length : (o : ℕ) → IsOperation (j .count) o → length (progress-text j (j .steps) o) ≤ 44
     unfolding progress-text text
