@@ -44,6 +44,19 @@ module _ (f : ℕ → Bool) {i n : ℕ} where
   unfolding any
   any-end h = simp (none-left h)
 
+  -- what was found before, joined with what is left
+  pub any-joins : (found r : Bool) → i < n → r ≡ found || f i → r || any f (i + 1) (n - (i + 1)) ≡ found || any f i (n - i)
+  unfolding any
+  any-joins found r h e = ap (λ (b : Bool). b || any f (i + 1) (n - (i + 1))) e ∙ by-found found
+    where
+      by-found : (b : Bool) → (b || f i) || any f (i + 1) (n - (i + 1)) ≡ b || any f i (n - i)
+      by-found true = refl
+      by-found false = simp (next-left h, add-one)
+
+  pub any-joined : (found : Bool) → n ≤ i → found ≡ found || any f i (n - i)
+  any-joined true h = refl
+  any-joined false h = any-end h
+
 pub below-outside : (low high n : ℕ) → n < low → true ≡ outside low high n
 unfolding outside
 below-outside low high n h = simp (lt-less h)

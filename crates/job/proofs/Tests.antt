@@ -1,9 +1,9 @@
 -- What the tests of the code say of the conditions of a stream. Assumes nothing.
-use mathlib.Core.Path.{_≡_, sym, ap, _∙_}
+use mathlib.Core.Path.{_≡_, sym, ap, subst, _∙_}
 use mathlib.Core.Logic.{_≢_}
 use Prim.Native.Nat.{ℕ, _+_, _-_, _*_, _≤_, _<_}
 use native.Mathlib.Omega.{arith}
-use mathlib.Core.Bool.{Bool, true, false, not, or-true}
+use mathlib.Core.Bool.{Bool, true, false, not, _||_, or-true, or-false}
 use mathlib.Core.List.{List, [], _∷_}
 use lib.ListN.{length, getD}
 use Rattle.basics.specs.Choice.{same, less}
@@ -89,12 +89,14 @@ pub entry-byte : (s : List ℕ) (k : ℕ) {place n : ℕ} → place ≡ 5 + 4 * 
 unfolding scheduled at
 entry-byte s k from count = ap (λ (x : ℕ). getD s (x + k) 0) (from ∙ ap (λ (x : ℕ). 5 + 4 * x) count)
 
--- an entry of the schedule likewise
-module _ (s : List ℕ) (k : ℕ) {p n : ℕ} (own : p ≡ process-of (slot-of (scheduled s k))) (all : n ≡ processes s) where
-  pub entry-met : n ≤ p → bad-entry s k ≡ true
-  unfolding bad-entry
-  entry-met h = simp (← own, ← all, le-less h)
+-- an entry of the schedule likewise, joined with what was found before
+module _ (found : Bool) {p q n : ℕ} (own : p ≡ q) where
+  pub process-found : n ≤ p → true ≡ found || not (less q n)
+  process-found h = sym (or-true found) ∙ ap (λ (b : Bool). found || not b) (sym (le-less (subst (λ x. n ≤ x) own h)))
 
-  pub entry-passed : p < n → bad-entry s k ≡ false
-  unfolding bad-entry
-  entry-passed h = simp (← own, ← all, lt-less h)
+  pub process-passed : p < n → found ≡ found || not (less q n)
+  process-passed h = sym (or-false found) ∙ ap (λ (b : Bool). found || not b) (sym (lt-less (subst (λ x. x < n) own h)))
+
+pub entry-found : (s : List ℕ) (k : ℕ) (found : Bool) {entry n : ℕ} {r : Bool} → entry ≡ scheduled s k → n ≡ processes s → r ≡ found || not (less (process-of (slot-of entry)) n) → r ≡ found || bad-entry s k
+unfolding bad-entry
+entry-found s k found own all e = e ∙ (λ i. found || not (less (process-of (slot-of (own i))) (all i)))

@@ -3,7 +3,9 @@ use block::Checked;
 use memory::word_at;
 ghost use mathlib.Core.Path.{_≡_};
 ghost use Prim.Native.Nat.{_+_, _*_, _≤_, _<_};
+ghost use mathlib.Core.Bool.{_||_, not};
 ghost use lib.ListN.{length};
+ghost use Rattle.basics.specs.Choice.{less};
 ghost use Rattle.job.specs.Limits.{field, most-file, most-stream, Sound};
 ghost use Rattle.job.specs.Kind.{kind-of};
 ghost use Rattle.job.specs.Slot.{slot-of, process-of, is-drop};
@@ -353,7 +355,18 @@ fn bad_records(s: &[u8]) -> bool
     false
 }
 
-// Is an entry of the schedule out of range?
+// Was an entry found before that is out of range, or is this one?
+fn found_bad(found: bool, entry: u8, processes: u8) -> bool
+    ensures { λ r. ⌜ r ≡ found || not (less (process-of (slot-of entry)) processes) ⌝ }
+{
+    let p = process_of(slot_of(entry));
+    if p.0 >= processes {
+        return true;
+    }
+    found
+}
+
+// Is an entry of the schedule out of range? All are looked at, also behind one that is: compiled code then looks at many at once.
 fn bad_schedule(s: &[u8]) -> bool
     requires { ⌜ stream-length (now s) ≤ length (now s) ⌝ }
     ensures { λ r. ⌜ r ≡ bad-schedule (now (s .entry)) ⌝ }
@@ -361,15 +374,13 @@ fn bad_schedule(s: &[u8]) -> bool
     let place = schedule_at(operations(s));
     let end = schedule_length(s) as usize + 1;
     let processes = processes(s);
+    let mut bad = false;
     let mut k: usize = 1;
     while k < end {
-        let p = process_of(slot_of(s[place + k]));
-        if p.0 >= processes {
-            return true;
-        }
+        bad = found_bad(bad, s[place + k], processes);
         k += 1;
     }
-    false
+    bad
 }
 
 // The numbers 10 and 11, and 0 where the records and the schedule meet none.
