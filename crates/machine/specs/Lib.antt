@@ -1,5 +1,5 @@
 -- Document 01 as definitions, in its order: the two machines, the steps, where an effect stands, the record, and what demand 3 says
--- of it.
+-- of it; and the rounds that a queue loses.
 pub mod Multiplicity
 pub mod Memory
 pub mod Table
@@ -13,3 +13,4 @@ pub mod Effects
 pub mod Record
 pub mod Left
 pub mod Explained
+pub mod Lost

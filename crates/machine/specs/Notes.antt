@@ -1,4 +1,4 @@
--- What a step was: who made it, what it was for the record, and the answer with which it ended its operation. Document 01, "The steps":
+-- What a step was: who made it, what it was for the record, the answer with which it ended its operation, and whether it went back. Document 01, "The steps":
 -- "Steps count from 1." Step number 0 stands for none.
 use Prim.Native.Nat.{ℕ, zero, suc}
 use mathlib.Core.Bool.{Bool, true, false}
@@ -15,7 +15,7 @@ use Rattle.machine.specs.declared.Event.{Event}
 use Rattle.machine.specs.declared.Event.the-variants.{Quiet, Round, Linked, Moved, Late, Raised}
 use Rattle.machine.specs.declared.Place.{Place}
 use Rattle.machine.specs.Access.{Registers, Reached}
-use Rattle.machine.specs.Table.{row-of, End, end-of}
+use Rattle.machine.specs.Table.{row-of, End, end-of, is-return}
 use Rattle.machine.specs.Table.End.{no-end, with-done, with-n, with-t, with-empty}
 use Rattle.machine.specs.Run.{State, state-after, reached, row-after, resting}
 
@@ -85,10 +85,12 @@ pub record Note : Type 0 where
   pub event : Event
   -- the answer with which it ended its operation
   pub answer : Answer
+  -- did it go back to Q1 or T1?
+  pub back : Bool
 
 -- a step that nobody makes
 unfoldable pub idle : Note
-idle = record { by = 0; event = Quiet; answer = none }
+idle = record { by = 0; event = Quiet; answer = none; back = false }
 
 -- the step of a place
 unfoldable pub acted : Place → Reached → Note
@@ -97,6 +99,7 @@ acted p a =
       by = p .operation .0;
       event = event-of (row-of (p .row) .access) (a .outcome) (a .registers);
       answer = answer-of (row-after p a) (a .registers);
+      back = is-return (row-after p a);
     }
 
 -- the step that a state is before, by what the schedule names for it. A drop is nobody's step: what it drops, `Drops.antt` says

@@ -1,9 +1,10 @@
 -- The step table. Document 01, "The steps": "The two listings are one table of nineteen rows." Document 02, request 3, adds the
 -- seventeen of the two-way linked stack. A row gives its access, its successor if the access succeeds, and if not. A successor is a row or an end. Where the paper has one successor, both are that.
 use Prim.Native.Nat.{ℕ}
-use mathlib.Core.Bool.{Bool, true, false}
+use mathlib.Core.Bool.{Bool, true, false, _||_}
 use mathlib.Core.List.{List, [], _∷_}
 use lib.ListN.{getD}
+use Rattle.basics.specs.Choice.{same}
 use Rattle.job.specs.declared.Kind.{Kind}
 use Rattle.job.specs.declared.Kind.the-variants.{Queue, Stack, TwoWay}
 use Rattle.machine.specs.declared.Row.{Row}
@@ -201,6 +202,10 @@ is-end with-empty = true
 -- has an operation ended?
 unfoldable pub ended : Row → Bool
 ended r = is-end (end-of r)
+
+-- is it Q1 or T1? An operation begins there, so a step that comes there goes back
+unfoldable pub is-return : Row → Bool
+is-return r = same (position r) (position Q1) || same (position r) (position T1)
 
 -- where an operation begins, by its object and by whether it is a put
 unfoldable pub first-row : Kind → Bool → Row

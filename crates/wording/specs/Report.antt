@@ -1,5 +1,5 @@
--- The report as bytes. Document 01, "The report, whole": operation lines in number order, record lines in step order, then `left`. "Each
--- line ends in a newline."
+-- The report as bytes. Document 01, "The report, whole": operation lines in number order, record lines in step order, then `lost` for a queue,
+-- then `left`. "Each line ends in a newline."
 use Prim.Native.Nat.{ℕ, zero, suc}
 use mathlib.Core.List.{List, [], _∷_, _++_}
 use lib.ListN.{length}
@@ -16,6 +16,7 @@ use Rattle.machine.specs.Journal.{first, last, answer}
 use Rattle.machine.specs.Drops.{drop}
 use Rattle.machine.specs.Record.{Recorded, the-record}
 use Rattle.machine.specs.Left.{left}
+use Rattle.machine.specs.Lost.{lost}
 
 -- `object queue`; "Kind 2 prints `object stack`."; document 02, request 3: "it becomes kind 3, printed `object linked`"
 unfoldable pub object-line : Kind → List ℕ
@@ -85,6 +86,12 @@ unfoldable pub record-lines : List Recorded → List ℕ
 record-lines [] = []
 record-lines (r ∷ l) = record-line r ++ record-lines l
 
+-- `lost 0`; document 02, request 5: "For kind 1 the report gains, before `left`, a line `lost` with the count of such returns in the run."
+unfoldable pub lost-line : Kind → ℕ → List ℕ
+lost-line Queue n = text "lost " ++ decimal n ++ text "\n"
+lost-line Stack n = []
+lost-line TwoWay n = []
+
 -- `left 1 3`: "It gives the count, then items front or top first."
 unfoldable pub left-line : List ℕ → List ℕ
 left-line items = text "left " ++ decimal (length items) ++ spaced items ++ text "\n"
@@ -95,4 +102,5 @@ report j =
     object-line (j .object)
     ++ operation-lines j (j .steps) (j .count)
     ++ record-lines (the-record j (j .steps))
+    ++ lost-line (j .object) (lost (note j) (j .steps))
     ++ left-line (left j (j .steps))

@@ -1,6 +1,6 @@
 -- Traces, as one table of jobs and whole reports: those that document 01 marks M ("M is proved"), as document 02 has them, and behind them
--- nineteen of our own, so that every outcome of every row happens in some trace: seven of them are of the two-way linked stack and seven of drops,
--- of which document 02 has no trace. The reports are worked out from the papers by hand.
+-- twenty-four of our own, so that every outcome of every row happens in some trace: seven of them are of the two-way linked stack, seven of drops and
+-- five of lost rounds, of which document 02 has no trace. The reports are worked out from the papers by hand.
 -- `traces-proved` says that the definitions accept every job and give its report, by computation.
 use mathlib.Core.Path.{_≡_, refl}
 use Prim.Native.Nat.{ℕ, _-_}
@@ -23,7 +23,7 @@ use Rattle.job.specs.File.{zeros, block-at, block-count, payloads, joined, bloc
 use Rattle.job.specs.Job.{job-of}
 use Rattle.job.specs.Examples.{put, take, joined-records, header, stream}
 use Rattle.machine.specs.Memory.{fresh-memory, set-from-to, yes-if, with-head, with-tail, with-top, with-next, with-mark, with-upper}
-use Rattle.machine.specs.Table.{row, table, position, row-of, successor, end-of, is-end, ended, first-row}
+use Rattle.machine.specs.Table.{row, table, position, row-of, successor, end-of, is-end, ended, is-return, first-row}
 use Rattle.machine.specs.Access.{have-read, have-set, access}
 use Rattle.machine.specs.Run.{seek, operation-after, before, fresh-state, reach, registers, reached, row-after, place-after, resting, acting, dropping, step, state-after}
 use Rattle.machine.specs.Notes.{answer-at, answer-of, is-answer, event-of, idle, acted, note-next, note}
@@ -32,7 +32,8 @@ use Rattle.machine.specs.Drops.{dropped-next, dropped, drop}
 use Rattle.machine.specs.Effects.{numbers, sift, largest, takers, first-move, latest-start, takes-at, is-empty, effect}
 use Rattle.machine.specs.Record.{if-at, line-at, lines-to, the-record}
 use Rattle.machine.specs.Left.{walk, left-in, left}
-use Rattle.wording.specs.Report.{object-line, action-text, answer-text, end-text, progress-text, operation-line, operation-lines, spaced, effect-text, record-line, record-lines, left-line, report}
+use Rattle.machine.specs.Lost.{tally, lost}
+use Rattle.wording.specs.Report.{object-line, action-text, answer-text, end-text, progress-text, operation-line, operation-lines, spaced, effect-text, record-line, record-lines, lost-line, left-line, report}
 
 -- a job, as its stream, and its whole report
 pub record Trace : Type 0 where
@@ -48,22 +49,22 @@ traces =
     -- "M the report above."
     record {
       job = stream 1 3 (put 0 500 ∷ take 1 ∷ take 2 ∷ []) (0 ∷ 0 ∷ 0 ∷ 0 ∷ 1 ∷ 2 ∷ 1 ∷ 2 ∷ 1 ∷ 2 ∷ 1 ∷ 2 ∷ []);
-      expected = "object queue\nop 1 process 0 put 50 first 1 last 4 done\nop 2 process 1 take first 5 last 11 item 1 value 50\nop 3 process 2 take first 6 last 12 item 1 value 50\nat 3 put 1\nat 11 take 1 by 2 3\nleft 0\n";
+      expected = "object queue\nop 1 process 0 put 50 first 1 last 4 done\nop 2 process 1 take first 5 last 11 item 1 value 50\nop 3 process 2 take first 6 last 12 item 1 value 50\nat 3 put 1\nat 11 take 1 by 2 3\nlost 0\nleft 0\n";
     }
     -- "M queue, one take, schedule 0 0 0: empty, first 1, last 3, `at 1 empty by 1`."
     ∷ record {
       job = stream 1 1 (take 0 ∷ []) (0 ∷ 0 ∷ 0 ∷ []);
-      expected = "object queue\nop 1 process 0 take first 1 last 3 empty\nat 1 empty by 1\nleft 0\n";
+      expected = "object queue\nop 1 process 0 take first 1 last 3 empty\nat 1 empty by 1\nlost 0\nleft 0\n";
     }
     -- "M queue, one put, 0 0 0: open, `at 3 put 1`, `left 1 1`."
     ∷ record {
       job = stream 1 1 (put 0 500 ∷ []) (0 ∷ 0 ∷ 0 ∷ []);
-      expected = "object queue\nop 1 process 0 put 50 first 1 last - open\nat 3 put 1\nleft 1 1\n";
+      expected = "object queue\nop 1 process 0 put 50 first 1 last - open\nat 3 put 1\nlost 0\nleft 1 1\n";
     }
     -- "M S = 0: all waiting, no record, `left 0`.", for each object
     ∷ record {
       job = stream 1 2 (put 0 500 ∷ take 1 ∷ []) [];
-      expected = "object queue\nop 1 process 0 put 50 first - last - waiting\nop 2 process 1 take first - last - waiting\nleft 0\n";
+      expected = "object queue\nop 1 process 0 put 50 first - last - waiting\nop 2 process 1 take first - last - waiting\nlost 0\nleft 0\n";
     }
     ∷ record {
       job = stream 2 2 (put 0 500 ∷ take 1 ∷ []) [];
@@ -93,17 +94,17 @@ traces =
     -- "The 65,535 trace of document 01 goes"
     ∷ record {
       job = stream 1 1 (put 0 504 ∷ put 0 505 ∷ put 0 515 ∷ []) (0 ∷ 0 ∷ 0 ∷ 0 ∷ 0 ∷ 0 ∷ 0 ∷ 0 ∷ 0 ∷ 0 ∷ 0 ∷ 0 ∷ []);
-      expected = "object queue\nop 1 process 0 put 50 first 1 last 4 done\nop 2 process 0 put 50 first 5 last 8 done\nop 3 process 0 put 52 first 9 last 12 done\nat 3 put 1\nat 7 put 2\nat 11 put 3\nleft 3 1 2 3\n";
+      expected = "object queue\nop 1 process 0 put 50 first 1 last 4 done\nop 2 process 0 put 50 first 5 last 8 done\nop 3 process 0 put 52 first 9 last 12 done\nat 3 put 1\nat 7 put 2\nat 11 put 3\nlost 0\nleft 3 1 2 3\n";
     }
     -- Document 02, request 2: "−5 prints 0, −15 prints −2, −25 prints −2. The field 65,535 now means −1 and prints 0."
     ∷ record {
       job = stream 1 1 (put 0 (below 5) ∷ put 0 (below 15) ∷ put 0 (below 25) ∷ put 0 65535 ∷ []) (0 ∷ 0 ∷ 0 ∷ 0 ∷ 0 ∷ 0 ∷ 0 ∷ 0 ∷ 0 ∷ 0 ∷ 0 ∷ 0 ∷ 0 ∷ 0 ∷ 0 ∷ 0 ∷ []);
-      expected = "object queue\nop 1 process 0 put 0 first 1 last 4 done\nop 2 process 0 put -2 first 5 last 8 done\nop 3 process 0 put -2 first 9 last 12 done\nop 4 process 0 put 0 first 13 last 16 done\nat 3 put 1\nat 7 put 2\nat 11 put 3\nat 15 put 4\nleft 4 1 2 3 4\n";
+      expected = "object queue\nop 1 process 0 put 0 first 1 last 4 done\nop 2 process 0 put -2 first 5 last 8 done\nop 3 process 0 put -2 first 9 last 12 done\nop 4 process 0 put 0 first 13 last 16 done\nat 3 put 1\nat 7 put 2\nat 11 put 3\nat 15 put 4\nlost 0\nleft 4 1 2 3 4\n";
     }
     -- "−32,768 to 32,767 mm": both ends, and a half beside one of them
     ∷ record {
       job = stream 1 1 (put 0 (below 32768) ∷ put 0 (below 32765) ∷ put 0 32767 ∷ []) (0 ∷ 0 ∷ 0 ∷ 0 ∷ 0 ∷ 0 ∷ 0 ∷ 0 ∷ 0 ∷ 0 ∷ 0 ∷ 0 ∷ []);
-      expected = "object queue\nop 1 process 0 put -3277 first 1 last 4 done\nop 2 process 0 put -3276 first 5 last 8 done\nop 3 process 0 put 3277 first 9 last 12 done\nat 3 put 1\nat 7 put 2\nat 11 put 3\nleft 3 1 2 3\n";
+      expected = "object queue\nop 1 process 0 put -3277 first 1 last 4 done\nop 2 process 0 put -3276 first 5 last 8 done\nop 3 process 0 put 3277 first 9 last 12 done\nat 3 put 1\nat 7 put 2\nat 11 put 3\nlost 0\nleft 3 1 2 3\n";
     }
     -- From here on the traces are our own.
     -- Queue puts that help and that come too late: Q2 that reads a node, Q3 that fails, Q5 that moves Tail and Q5 that finds it moved, Q4 that
@@ -111,20 +112,20 @@ traces =
     -- 2 fails its Q3 at step 7 and helps: Q1 Q2 Q5, then Q1 Q2 Q3 Q4. 3 stands at Q5 until Tail is at node 2: Q1 Q2, Q5 Q1 Q2 Q3 Q4.
     ∷ record {
       job = stream 1 4 (put 0 500 ∷ put 1 510 ∷ put 2 520 ∷ []) (3 ∷ 0 ∷ 0 ∷ 1 ∷ 1 ∷ 0 ∷ 1 ∷ 1 ∷ 1 ∷ 2 ∷ 2 ∷ 1 ∷ 1 ∷ 1 ∷ 1 ∷ 1 ∷ 0 ∷ 0 ∷ 2 ∷ 2 ∷ 2 ∷ 2 ∷ 2 ∷ []);
-      expected = "object queue\nop 1 process 0 put 50 first 2 last 17 done\nop 2 process 1 put 51 first 4 last 16 done\nop 3 process 2 put 52 first 10 last 23 done\nat 6 put 1\nat 15 put 2\nat 22 put 3\nleft 3 1 2 3\n";
+      expected = "object queue\nop 1 process 0 put 50 first 2 last 17 done\nop 2 process 1 put 51 first 4 last 16 done\nop 3 process 2 put 52 first 10 last 23 done\nat 6 put 1\nat 15 put 2\nat 22 put 3\nlost 3\nleft 3 1 2 3\n";
     }
     -- A queue take that helps: T3 that reads a node behind h = t, T4 that moves Tail, then T1 T2 T3 T5. Put 3 finds Tail moved; take 4 runs T5 for
     -- item 1 before take 2 does, whose own T5 comes when Head is two nodes further. 505 mm, taken, is 50; the two readings are equal,
     -- the items are not.
     ∷ record {
       job = stream 1 3 (put 0 505 ∷ take 1 ∷ put 2 505 ∷ take 2 ∷ take 2 ∷ []) (0 ∷ 0 ∷ 0 ∷ 1 ∷ 1 ∷ 1 ∷ 1 ∷ 2 ∷ 2 ∷ 2 ∷ 2 ∷ 1 ∷ 1 ∷ 1 ∷ 2 ∷ 2 ∷ 2 ∷ 2 ∷ 2 ∷ 2 ∷ 2 ∷ 2 ∷ 1 ∷ 0 ∷ []);
-      expected = "object queue\nop 1 process 0 put 50 first 1 last 24 done\nop 2 process 1 take first 4 last 23 item 1 value 50\nop 3 process 2 put 50 first 8 last 11 done\nop 4 process 2 take first 15 last 18 item 1 value 50\nop 5 process 2 take first 19 last 22 item 3 value 50\nat 3 put 1\nat 10 put 3\nat 18 take 1 by 2 4\nat 22 take 3 by 5\nleft 0\n";
+      expected = "object queue\nop 1 process 0 put 50 first 1 last 24 done\nop 2 process 1 take first 4 last 23 item 1 value 50\nop 3 process 2 put 50 first 8 last 11 done\nop 4 process 2 take first 15 last 18 item 1 value 50\nop 5 process 2 take first 19 last 22 item 3 value 50\nat 3 put 1\nat 10 put 3\nat 18 take 1 by 2 4\nat 22 take 3 by 5\nlost 1\nleft 0\n";
     }
     -- A queue take whose T4 finds Tail moved, and that goes round to find the queue empty: its line stands at its last T1, step 13.
     -- 15 mm below the datum, taken, is -2.
     ∷ record {
       job = stream 1 3 (put 0 (below 15) ∷ take 1 ∷ take 2 ∷ []) (0 ∷ 0 ∷ 0 ∷ 1 ∷ 1 ∷ 1 ∷ 0 ∷ 2 ∷ 2 ∷ 2 ∷ 2 ∷ 1 ∷ 1 ∷ 1 ∷ 1 ∷ []);
-      expected = "object queue\nop 1 process 0 put -2 first 1 last 7 done\nop 2 process 1 take first 4 last 15 empty\nop 3 process 2 take first 8 last 11 item 1 value -2\nat 3 put 1\nat 11 take 1 by 3\nat 13 empty by 2\nleft 0\n";
+      expected = "object queue\nop 1 process 0 put -2 first 1 last 7 done\nop 2 process 1 take first 4 last 15 empty\nop 3 process 2 take first 8 last 11 item 1 value -2\nat 3 put 1\nat 11 take 1 by 3\nat 13 empty by 2\nlost 1\nleft 0\n";
     }
     -- Stack puts that meet a mark: P2 that reads it raised, P4 that moves Top (3) and P4 that finds it moved (4), P3 that fails (4). 3 goes on with
     -- P1 P3, 4 with P1 P3 P1 P2 P3. Take 2 stays open behind its R3; two items are left.
@@ -185,19 +186,19 @@ traces =
     -- before a first operation, by process 2, which has no operation, behind another drop, and when all of process 0 are done. None of them skips an operation.
     ∷ record {
       job = stream 1 3 (put 0 500 ∷ put 0 510 ∷ take 1 ∷ []) (128 ∷ 129 ∷ 130 ∷ 0 ∷ 0 ∷ 128 ∷ 128 ∷ 0 ∷ 0 ∷ 0 ∷ 0 ∷ 128 ∷ []);
-      expected = "object queue\nop 1 process 0 put 50 first 4 last - dropped\nop 2 process 0 put 51 first 8 last 11 done\nop 3 process 1 take first - last - waiting\nat 10 put 2\nleft 1 2\n";
+      expected = "object queue\nop 1 process 0 put 50 first 4 last - dropped\nop 2 process 0 put 51 first 8 last 11 done\nop 3 process 1 take first - last - waiting\nat 10 put 2\nlost 0\nleft 1 2\n";
     }
     -- A queue put dropped between its changing Q3 and its Q4: its item is in, and Tail is left behind. The next of its process is dropped behind its Q1. Put 3 helps: Q1
     -- Q2 Q5, then Q1 Q2 Q3 Q4; and take 4 gets item 1, T1 T2 T3 T5.
     ∷ record {
       job = stream 1 2 (put 0 500 ∷ put 0 510 ∷ put 1 520 ∷ take 1 ∷ []) (0 ∷ 0 ∷ 0 ∷ 128 ∷ 0 ∷ 128 ∷ 1 ∷ 1 ∷ 1 ∷ 1 ∷ 1 ∷ 1 ∷ 1 ∷ 1 ∷ 1 ∷ 1 ∷ 1 ∷ []);
-      expected = "object queue\nop 1 process 0 put 50 first 1 last - dropped\nop 2 process 0 put 51 first 5 last - dropped\nop 3 process 1 put 52 first 7 last 13 done\nop 4 process 1 take first 14 last 17 item 1 value 50\nat 3 put 1\nat 12 put 3\nat 17 take 1 by 4\nleft 1 3\n";
+      expected = "object queue\nop 1 process 0 put 50 first 1 last - dropped\nop 2 process 0 put 51 first 5 last - dropped\nop 3 process 1 put 52 first 7 last 13 done\nop 4 process 1 take first 14 last 17 item 1 value 50\nat 3 put 1\nat 12 put 3\nat 17 take 1 by 4\nlost 1\nleft 1 3\n";
     }
     -- Queue takes without effect: 2 is dropped behind its T3, before its T5, and 3 takes the item; 4 is dropped behind its T2, with the queue empty, before the T3 that would
     -- have answered so.
     ∷ record {
       job = stream 1 3 (put 0 500 ∷ take 1 ∷ take 2 ∷ take 1 ∷ []) (0 ∷ 0 ∷ 0 ∷ 0 ∷ 1 ∷ 1 ∷ 1 ∷ 129 ∷ 2 ∷ 2 ∷ 2 ∷ 2 ∷ 1 ∷ 1 ∷ 129 ∷ []);
-      expected = "object queue\nop 1 process 0 put 50 first 1 last 4 done\nop 2 process 1 take first 5 last - dropped\nop 3 process 2 take first 9 last 12 item 1 value 50\nop 4 process 1 take first 13 last - dropped\nat 3 put 1\nat 12 take 1 by 3\nleft 0\n";
+      expected = "object queue\nop 1 process 0 put 50 first 1 last 4 done\nop 2 process 1 take first 5 last - dropped\nop 3 process 2 take first 9 last 12 item 1 value 50\nop 4 process 1 take first 13 last - dropped\nat 3 put 1\nat 12 take 1 by 3\nlost 0\nleft 0\n";
     }
     -- Stack takes dropped between R3 and R4: each took its item, which nobody got. Put 3 meets the mark of 2's item, P1 P2 P4, then P1 P3; take 5 meets that of 4's, R1 R2 R5,
     -- and its next R1 reads none.
@@ -223,6 +224,32 @@ traces =
       job = stream 3 2 (put 0 500 ∷ take 1 ∷ put 0 600 ∷ take 1 ∷ []) (0 ∷ 0 ∷ 0 ∷ 0 ∷ 0 ∷ 1 ∷ 1 ∷ 1 ∷ 1 ∷ 129 ∷ 0 ∷ 0 ∷ 0 ∷ 0 ∷ 0 ∷ 0 ∷ 0 ∷ 0 ∷ 0 ∷ 128 ∷ 1 ∷ 1 ∷ 1 ∷ 1 ∷ 1 ∷ 1 ∷ 1 ∷ 129 ∷ []);
       expected = "object linked\nop 1 process 0 put 50 first 1 last 5 done\nop 2 process 1 take first 6 last - dropped\nop 3 process 0 put 60 first 11 last - dropped\nop 4 process 1 take first 21 last - dropped\nat 4 put 1\nat 9 take 1 by 2\nat 19 put 3\nat 27 take 3 by 4\nleft 0\n";
     }
+    -- Lost rounds. Document 02, request 5: "A lost round is a return to Q1 or T1." A failed Q3: puts 1 and 2 read the sentinel's next, none, Q1 Q2 by each; 2 links and ends, Q3 Q4;
+    -- 1 fails its Q3 at step 7, and Q1 Q2 Q3 Q4.
+    ∷ record {
+      job = stream 1 2 (put 0 500 ∷ put 1 510 ∷ []) (0 ∷ 0 ∷ 1 ∷ 1 ∷ 1 ∷ 1 ∷ 0 ∷ 0 ∷ 0 ∷ 0 ∷ 0 ∷ []);
+      expected = "object queue\nop 1 process 0 put 50 first 1 last 11 done\nop 2 process 1 put 51 first 3 last 6 done\nat 5 put 2\nat 10 put 1\nlost 1\nleft 2 2 1\n";
+    }
+    -- Q5: put 1 stands at its Q4, so put 2 helps at step 6, Q1 Q2 Q5, then Q1 Q2 Q3 Q4. The Q4 of 1 finds Tail moved, and is no return.
+    ∷ record {
+      job = stream 1 2 (put 0 500 ∷ put 1 510 ∷ []) (0 ∷ 0 ∷ 0 ∷ 1 ∷ 1 ∷ 1 ∷ 1 ∷ 1 ∷ 1 ∷ 1 ∷ 0 ∷ []);
+      expected = "object queue\nop 1 process 0 put 50 first 1 last 11 done\nop 2 process 1 put 51 first 4 last 10 done\nat 3 put 1\nat 9 put 2\nlost 1\nleft 2 1 2\n";
+    }
+    -- T4: the same with a take, which helps at step 7, T1 T2 T3 T4, then T1 T2 T3 T5.
+    ∷ record {
+      job = stream 1 2 (put 0 500 ∷ take 1 ∷ []) (0 ∷ 0 ∷ 0 ∷ 1 ∷ 1 ∷ 1 ∷ 1 ∷ 1 ∷ 1 ∷ 1 ∷ 1 ∷ 0 ∷ []);
+      expected = "object queue\nop 1 process 0 put 50 first 1 last 12 done\nop 2 process 1 take first 4 last 11 item 1 value 50\nat 3 put 1\nat 11 take 1 by 2\nlost 1\nleft 0\n";
+    }
+    -- The bound, met: two processes and one put in the record can lose 2 × 1 × 1. Put 2 reads the sentinel's next before put 1 links, Q1 Q2; it fails its Q3, and helps, Q1 Q2 Q5.
+    ∷ record {
+      job = stream 1 2 (put 0 500 ∷ put 1 510 ∷ []) (1 ∷ 1 ∷ 0 ∷ 0 ∷ 0 ∷ 1 ∷ 1 ∷ 1 ∷ 1 ∷ []);
+      expected = "object queue\nop 1 process 0 put 50 first 3 last - open\nop 2 process 1 put 51 first 1 last - open\nat 5 put 1\nlost 2\nleft 1 1\n";
+    }
+    -- One process, which loses a round by its own drop: put 1 is dropped between its changing Q3 and its Q4, so put 2 helps Tail to it, Q1 Q2 Q5, then Q1 Q2 Q3 Q4. 2 × 0 × 2 + 1.
+    ∷ record {
+      job = stream 1 1 (put 0 500 ∷ put 0 510 ∷ []) (0 ∷ 0 ∷ 0 ∷ 128 ∷ 0 ∷ 0 ∷ 0 ∷ 0 ∷ 0 ∷ 0 ∷ 0 ∷ []);
+      expected = "object queue\nop 1 process 0 put 50 first 1 last - dropped\nop 2 process 0 put 51 first 5 last 11 done\nat 3 put 1\nat 10 put 2\nlost 1\nleft 2 1 2\n";
+    }
     ∷ []
 
 -- the refusal of a trace's file, and the report of its job
@@ -238,5 +265,5 @@ unfoldable pub promised : Trace → Replayed
 promised t = record { number = 0; text = text (t .expected) }
 
 pub traces-proved : map replayed traces ≡ map promised traces
-unfolding put take below joined-records header stream traces replayed promised pick same less at upd word word-bytes text digits decimal block-size payload-size summed-size add-byte add-bytes sums block payload-of sum-differs misplaced block-refusal kind-number kinds look-up kind-of is-missing kind-found kind processes operations schedule-length record-at process action value scheduled slot-of process-of stream-length first-met any outside bad-kind bad-processes bad-operations bad-schedule-length exact-count bad-record bad-records bad-entry bad-schedule bad-padding header-conditions list-conditions most-file zeros block-at block-count payloads joined blocks padded file-of bad-length blocks-refusal bad-count stream-refusal file-refusal job-of fresh-memory set-from-to yes-if with-head with-tail with-top with-next with-mark with-upper row table position row-of successor end-of is-end ended first-row have-read have-set access seek operation-after before fresh-state reach registers reached row-after place-after resting acting dropping step state-after answer-at answer-of is-answer event-of is-round is-linked item-of moved-to idle acted note-next note earliest latest made begins-round links joins ends first last answer start link join taken dropped-next dropped drop numbers sift largest takers first-move latest-start takes-at is-empty effect if-at line-at lines-to the-record walk left-in left millimetres half-way even-one nearest centimetres signed-decimal stage-text object-line action-text answer-text end-text progress-text operation-line operation-lines spaced effect-text record-line record-lines left-line report
+unfolding put take below joined-records header stream traces replayed promised pick same less at upd word word-bytes text digits decimal block-size payload-size summed-size add-byte add-bytes sums block payload-of sum-differs misplaced block-refusal kind-number kinds look-up kind-of is-missing kind-found kind processes operations schedule-length record-at process action value scheduled slot-of process-of stream-length first-met any outside bad-kind bad-processes bad-operations bad-schedule-length exact-count bad-record bad-records bad-entry bad-schedule bad-padding header-conditions list-conditions most-file zeros block-at block-count payloads joined blocks padded file-of bad-length blocks-refusal bad-count stream-refusal file-refusal job-of fresh-memory set-from-to yes-if with-head with-tail with-top with-next with-mark with-upper row table position row-of successor end-of is-end ended is-return first-row have-read have-set access seek operation-after before fresh-state reach registers reached row-after place-after resting acting dropping step state-after answer-at answer-of is-answer event-of is-round is-linked item-of moved-to idle acted note-next note earliest latest made begins-round links joins ends first last answer start link join taken dropped-next dropped drop numbers sift largest takers first-move latest-start takes-at is-empty effect if-at line-at lines-to the-record walk left-in left tally lost millimetres half-way even-one nearest centimetres signed-decimal stage-text object-line action-text answer-text end-text progress-text operation-line operation-lines spaced effect-text record-line record-lines lost-line left-line report
 traces-proved = refl
