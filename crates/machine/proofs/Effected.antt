@@ -66,7 +66,7 @@ effected kind log count k o = go (split (link log k o) 0) (split (taken log k o)
     go (inl l) (inl t) (inr a) = by-none l t (a .0) (pick-else _ _ (ap not (equal-same l)) ∙ pick-else _ _ (ap not (equal-same t)) ∙ pick-else _ _ (a .1))
 
 -- an event by its test
-linked-event : (e : Event) → is-linked e ≡ true → e ≡ Linked
+pub linked-event : (e : Event) → is-linked e ≡ true → e ≡ Linked
 unfolding is-linked
 linked-event Quiet t = absurd (true≢false (sym t))
 linked-event Round t = absurd (true≢false (sym t))

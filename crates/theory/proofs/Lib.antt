@@ -16,3 +16,4 @@ pub mod Queue
 pub mod Stack
 pub mod TwoWay
 pub mod Theorem
+pub mod Lost

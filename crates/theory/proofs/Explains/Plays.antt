@@ -9,6 +9,7 @@ use Rattle.basics.proofs.Choice.{pick-then, same-refl}
 use Rattle.job.specs.declared.Kind.{Kind}
 use Rattle.machine.specs.Multiplicity.{Line, remove, find-empty, apply, then, play}
 use Rattle.machine.specs.Multiplicity.Line.{put, takes, empty}
+use Rattle.machine.specs.Notes.{Note}
 use Rattle.machine.specs.Record.{Recorded, line-at, lines-to, lines-of}
 use Rattle.machine.specs.Left.{left-in}
 use Rattle.machine.specs.Explained.{put-lines, take-lines}
@@ -52,6 +53,11 @@ take-lines-append [] b = omega arith
 take-lines-append (put o ∷ a) b = take-lines-append a b
 take-lines-append (takes item takers ∷ a) b = omega (arith, take-lines-append a b)
 take-lines-append (empty o ∷ a) b = take-lines-append a b
+
+-- the lines of one more step
+pub put-lines-one-more : (kind : Kind) (log : ℕ → Note) (count k s : ℕ) → put-lines (lines-of (lines-to kind log count k (suc s))) ≡ put-lines (lines-of (lines-to kind log count k s)) + put-lines (lines-of (line-at kind log count k (suc s)))
+unfolding lines-to
+put-lines-one-more kind log count k s = ap put-lines (lines-of-append (lines-to kind log count k s) (line-at kind log count k (suc s))) ∙ put-lines-append _ _
 
 -- the line at a step, and what it does to the number of items
 counts-applies : (object : Kind) {l : List Recorded} {c d : List ℕ} → Applies object l c d → put-lines (lines-of l) + length c ≡ take-lines (lines-of l) + length d
