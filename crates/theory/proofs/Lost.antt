@@ -22,7 +22,7 @@ use Rattle.machine.specs.Journal.{link}
 use Rattle.machine.specs.Drops.{dropped}
 use Rattle.machine.specs.Explained.{IsOperation}
 use Rattle.machine.specs.Lost.{tally, lost, puts, late-drop, late-drops}
-use Rattle.theory.specs.Bounded.{Bounded}
+use Rattle.theory.specs.Bounded.{most-lost, Bounded}
 use Rattle.theory.proofs.Lost.Tallies.{tally-none}
 use Rattle.theory.proofs.Lost.Totals.{total, total-none, of-process, total-tally, total-bound}
 use Rattle.theory.proofs.Lost.Charges.{who, links-at, links-gone, gone-links}
@@ -42,7 +42,7 @@ module _ (base : Job) (k P : ℕ) (owned : Owned base P) where
   unfolding who
   who-links s e = owned (note j s .by) (linker j s e)
 
-  lost-total : total (λ p. lost-by base p k) P ≡ lost (note j) k
+  lost-total : total (λ p. lost-by j p k) P ≡ lost (note j) k
   unfolding lost lost-by who idle
   lost-total = total-tally (λ s. note j s .back) (who j) P (λ s e. owned (note j s .by) (maker j (λ x. x .back) refl s e)) k
 
@@ -51,17 +51,18 @@ module _ (base : Job) (k P : ℕ) (owned : Owned base P) where
   together =
       omega (
         arith,
-        total-bound (λ p. lost-by base p k) (λ p. tally (of-process (links-at j) (who j) p) k) (λ p. tally (of-process (links-gone j k) (who j) p) k) (2 * tally (links-at j) k) P (λ p. lost-by-bound base p k),
+        total-bound (λ p. lost-by j p k) (λ p. tally (of-process (links-at j) (who j) p) k) (λ p. tally (of-process (links-gone j k) (who j) p) k) (2 * tally (links-at j) k) P (λ p. lost-by-bound base p k),
         lost-total,
         total-tally (links-at j) (who j) P who-links k,
         total-tally (links-gone j k) (who j) P (λ s e. who-links s (gone-links j k s e)) k,
       )
 
-  queue-at-most : lost (note j) k ≤ 2 * (P - 1) * puts j k + late-drops j k
+  queue-at-most : lost (note j) k ≤ most-lost j k P
+  unfolding most-lost
   queue-at-most = by-processes P refl
     where
-      by-processes : (n : ℕ) → P ≡ n → lost (note j) k ≤ 2 * (P - 1) * puts j k + late-drops j k
-      by-processes zero e = omega (arith, lost-total, ap (total (λ p. lost-by base p k)) e, total-none (λ p. lost-by base p k))
+      by-processes : (n : ℕ) → P ≡ n → lost (note j) k ≤ most-lost j k P
+      by-processes zero e = omega (arith, lost-total, ap (total (λ p. lost-by j p k)) e, total-none (λ p. lost-by j p k))
       by-processes (suc q) e =
           let L : ℕ = tally (links-at j) k in
           let less : P - 1 ≡ q = omega arith in
@@ -71,7 +72,7 @@ module _ (base : Job) (k P : ℕ) (owned : Owned base P) where
           omega (arith, together, gone-are-drops j k)
 
   queue-alone : P ≡ 1 → ((s : ℕ) → s ≤ k → dropped j s ≡ 0) → lost (note j) k ≡ 0
-  unfolding late-drops late-drop
+  unfolding most-lost late-drops late-drop
   queue-alone e none =
       let less : 2 * (P - 1) * puts j k ≡ 0 = ap (λ n. 2 * (n - 1) * puts j k) e ∙ zero-mul (puts j k) in
       omega (arith, queue-at-most, tally-none (late-drop j) k (λ s low high. no-late-drop s (none s high)))

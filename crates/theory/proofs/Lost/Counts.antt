@@ -94,7 +94,6 @@ module _ (j : Job) where
   gone-one-more k before = by-drop (both (late-drop j (suc k)))
     where
       its-node : (s : ℕ) → 1 ≤ s → s ≤ k → links-gone j (suc k) s ≡ true → dropped j (suc k) ≡ note j s .by → link (note j) (suc k) (dropped j (suc k)) ≡ s
-
       its-node s low high e d = ap (link (note j) (suc k)) d ∙ linked-at (suc k) s (gone-links j (suc k) s e) low (omega arith)
 
       by-drop : (late-drop j (suc k) ≡ true) ⊎ (late-drop j (suc k) ≡ false) → tally (links-gone j (suc k)) k ≤ late-drops j (suc k)

@@ -83,7 +83,7 @@ module _ (base : Job) (p : ℕ) where
   ledger (suc k) = ledger-step k (one-step j k) (ledger k)
 
   -- so what p lost, and twice the nodes that it linked, are at most twice all nodes and those of its own that were dropped
-  pub lost-by-bound : (k : ℕ) → lost-by base p k + 2 * tally (of-process (links-at j) (who j) p) k ≤ 2 * tally (links-at j) k + tally (of-process (links-gone j k) (who j) p) k
+  pub lost-by-bound : (k : ℕ) → lost-by j p k + 2 * tally (of-process (links-at j) (who j) p) k ≤ 2 * tally (links-at j) k + tally (of-process (links-gone j k) (who j) p) k
   unfolding paid-by of-process others
   lost-by-bound k =
       let held : Ledger base p k = ledger k in

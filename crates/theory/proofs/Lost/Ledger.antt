@@ -68,28 +68,28 @@ new-next (head-moves e m h) i z n = absurd (n z)
 
 -- nodes that process p pays for: another's; and, for a help, a dropped one
 abbrev pub Other : Job → ℕ → ℕ → Type 0
-Other base p x = base .owner x ≢ p
+Other j p x = j .owner x ≢ p
 
 abbrev pub Pays : Job → ℕ → ℕ → ℕ → Type 0
-Pays base p k x = (base .owner x ≢ p) ⊎ (drop (as-queue base) k x ≢ 0)
+Pays j p k x = (j .owner x ≢ p) ⊎ (drop j k x ≢ 0)
 
 -- where process p stands after k steps
 unfoldable pub at-place : Job → ℕ → ℕ → Local
-at-place base p k = local-of (state-after (as-queue base) k .places p)
+at-place j p k = local-of (state-after j k .places p)
 
 -- an own node that is linked: Tail has reached it, or its put is in p's hand before its Q4, or was dropped
-pub data Settled (base : Job) (p k x : ℕ) : Type 0 where
-  reached : link (note (as-queue base)) k x ≤ link (note (as-queue base)) k (memory (as-queue base) k .tail) → Settled base p k x
-  at-hand : state-after (as-queue base) k .places p .operation .0 ≡ x → AtQ4 (at-place base p k) → Settled base p k x
-  gone : drop (as-queue base) k x ≢ 0 → Settled base p k x
+pub data Settled (j : Job) (p k x : ℕ) : Type 0 where
+  reached : link (note j) k x ≤ link (note j) k (memory j k .tail) → Settled j p k x
+  at-hand : state-after j k .places p .operation .0 ≡ x → AtQ4 (at-place j p k) → Settled j p k x
+  gone : drop j k x ≢ 0 → Settled j p k x
 
 -- the rounds that process p lost in k steps, and the nodes that pay for them: for failed Q3, those linked up to step a; for helps, up to step b
 unfoldable pub lost-by : Job → ℕ → ℕ → ℕ
-lost-by base p k = tally (of-process (λ s. note (as-queue base) s .back) (who (as-queue base)) p) k
+lost-by j p k = tally (of-process (λ s. note j s .back) (who j) p) k
 
 unfoldable pub paid-by : Job → ℕ → ℕ → ℕ → ℕ → ℕ
-paid-by base p k a b =
-    tally (others (as-queue base) p) a + (tally (others (as-queue base) p) b + tally (of-process (links-gone (as-queue base) k) (who (as-queue base)) p) b)
+paid-by j p k a b =
+    tally (others j p) a + (tally (others j p) b + tally (of-process (links-gone j k) (who j) p) b)
 
 pub record Ledger (base : Job) (p k : ℕ) : Type 0 where
   -- the last node paid for a failed Q3 was linked at step a, the last for a help at step b
@@ -97,9 +97,9 @@ pub record Ledger (base : Job) (p k : ℕ) : Type 0 where
   pub b : ℕ
   pub a-made : a ≤ k
   pub b-reached : b ≤ link (note (as-queue base)) k (memory (as-queue base) k .tail)
-  pub paid : lost-by base p k ≤ paid-by base p k a b
-  pub settled : (x : ℕ) → base .owner x ≡ p → link (note (as-queue base)) k x ≢ 0 → Settled base p k x
-  pub stands : Stands a b (Other base p) (Pays base p k) (now (course (as-queue base)) k) (at-place base p k)
+  pub paid : lost-by (as-queue base) p k ≤ paid-by (as-queue base) p k a b
+  pub settled : (x : ℕ) → base .owner x ≡ p → link (note (as-queue base)) k x ≢ 0 → Settled (as-queue base) p k x
+  pub stands : Stands a b (Other (as-queue base) p) (Pays (as-queue base) p k) (now (course (as-queue base)) k) (at-place (as-queue base) p k)
 
 module _ (base : Job) where
   abbrev j : Job
@@ -131,12 +131,12 @@ module _ (base : Job) where
       by-maker (inl m) (inl e) = (m, linked-event (note j (suc k) .event) e)
 
   module _ (p : ℕ) where
-    pub pays-later : (k x : ℕ) → Pays base p k x → Pays base p (suc k) x
+    pub pays-later : (k x : ℕ) → Pays j p k x → Pays j p (suc k) x
     pays-later k x (inl n) = inl n
     pays-later k x (inr n) = inr (drop-stays j k x n)
 
     -- nodes that paid go on doing so
-    pub paid-later : (k a b : ℕ) → paid-by base p k a b ≤ paid-by base p (suc k) a b
+    pub paid-later : (k a b : ℕ) → paid-by j p k a b ≤ paid-by j p (suc k) a b
     unfolding paid-by
     paid-later k a b = omega (arith, tally-below (of-process (links-gone j k) (who j) p) (of-process (links-gone j (suc k)) (who j) p) b (λ s low high. gone-later j k p s))
 
@@ -151,23 +151,23 @@ module _ (base : Job) where
 
     module _ (k : ℕ) (held : Ledger base p k) where
       -- what is settled stays so while p stands where it does
-      pub settled-kept : (x : ℕ) → link (note j) k x ≢ 0 → Settled base p k x → (state-after j k .places p .operation .0 ≡ x → AtQ4 (at-place base p k) → Settled base p (suc k) x) → Settled base p (suc k) x
+      pub settled-kept : (x : ℕ) → link (note j) k x ≢ 0 → Settled j p k x → (state-after j k .places p .operation .0 ≡ x → AtQ4 (at-place j p k) → Settled j p (suc k) x) → Settled j p (suc k) x
       settled-kept x some (reached h) hand =
           reached (omega (arith, grows k .born-kept x (λ m. some), grows k .tail-goes-on))
       settled-kept x some (at-hand e q) hand = hand e q
       settled-kept x some (gone n) hand = gone (drop-stays j k x n)
 
       -- step k + 1 is another's or nobody's
-      module _ (apart : note j (suc k) .event ≡ Linked → Other base p (note j (suc k) .by)) (none-lost : of-process (λ s. note j s .back) (who j) p (suc k) ≡ false) where
-        pays-new : (mark : ℕ) → mark ≤ k → (t : ℕ) → now c k .next t ≡ 0 → now c (suc k) .next t ≢ 0 → (mark < now c (suc k) .born (now c (suc k) .next t)) × Other base p (now c (suc k) .next t)
+      module _ (apart : note j (suc k) .event ≡ Linked → Other j p (note j (suc k) .by)) (none-lost : of-process (λ s. note j s .back) (who j) p (suc k) ≡ false) where
+        pays-new : (mark : ℕ) → mark ≤ k → (t : ℕ) → now c k .next t ≡ 0 → now c (suc k) .next t ≢ 0 → (mark < now c (suc k) .born (now c (suc k) .next t)) × Other j p (now c (suc k) .next t)
         pays-new mark low t z n =
             let new : NewNext k (note j (suc k) .by) (now c (suc k)) t (note j (suc k) .event) = new-next (changes k) t z n in
-            (omega (arith, ap (now c (suc k) .born) (new .is-own), new .born-now), subst (Other base p) (sym (new .is-own)) (apart (new .links-it)))
+            (omega (arith, ap (now c (suc k) .born) (new .is-own), new .born-now), subst (Other j p) (sym (new .is-own)) (apart (new .links-it)))
 
         b-made : held .b ≤ k
         b-made = omega (arith, held .b-reached, link-le (note j) k (memory j k .tail))
 
-        stands-on : {l : Local} → Stands (held .a) (held .b) (Other base p) (Pays base p k) (now c k) l → Stands (held .a) (held .b) (Other base p) (Pays base p (suc k)) (now c (suc k)) l
+        stands-on : {l : Local} → Stands (held .a) (held .b) (Other j p) (Pays j p k) (now c k) l → Stands (held .a) (held .b) (Other j p) (Pays j p (suc k)) (now c (suc k)) l
         stands-on =
             stands-grows (always c k .sound) (grows k) (pays-later k) (pays-new (held .a) (held .a-made))
             (λ t z n. (pays-new (held .b) b-made t z n .0, inl (pays-new (held .b) b-made t z n .1)))
@@ -176,7 +176,7 @@ module _ (base : Job) where
         linked-before : (x : ℕ) → j .owner x ≡ p → link (note j) (suc k) x ≢ 0 → link (note j) k x ≢ 0
         linked-before x own n z = let new = new-node k x z n in apart (new .1) (ap (j .owner) (new .0) ∙ own)
 
-        ledger-of-other : Stands (held .a) (held .b) (Other base p) (Pays base p (suc k)) (now c (suc k)) (at-place base p (suc k)) → ((x : ℕ) → state-after j k .places p .operation .0 ≡ x → AtQ4 (at-place base p k) → Settled base p (suc k) x) → Ledger base p (suc k)
+        ledger-of-other : Stands (held .a) (held .b) (Other j p) (Pays j p (suc k)) (now c (suc k)) (at-place j p (suc k)) → ((x : ℕ) → state-after j k .places p .operation .0 ≡ x → AtQ4 (at-place j p k) → Settled j p (suc k) x) → Ledger base p (suc k)
         unfolding lost-by
         ledger-of-other stands hand =
             record {
@@ -193,14 +193,14 @@ module _ (base : Job) where
         pub ledger-kept : state-after j (suc k) .places p ≡ state-after j k .places p → Ledger base p (suc k)
         unfolding at-place
         ledger-kept same-place =
-            ledger-of-other (subst (λ x. Stands (held .a) (held .b) (Other base p) (Pays base p (suc k)) (now c (suc k)) (local-of x)) (sym same-place) (stands-on (held .stands)))
+            ledger-of-other (subst (λ x. Stands (held .a) (held .b) (Other j p) (Pays j p (suc k)) (now c (suc k)) (local-of x)) (sym same-place) (stands-on (held .stands)))
             (λ x e q. at-hand (ap (λ (y : Place). y .operation .0) same-place ∙ e) (subst (λ y. AtQ4 (local-of y)) (sym same-place) q))
 
         -- or it dropped the operation in its hand
         pub ledger-dropped : (o : ℕ) → state-after j k .places p .operation .0 ≡ o → dropped j (suc k) ≡ o → state-after j (suc k) .places p ≡ before j (operation-after j p o) → Ledger base p (suc k)
         unfolding at-place
         ledger-dropped o in-hand named moved =
-            ledger-of-other (subst (λ x. Stands (held .a) (held .b) (Other base p) (Pays base p (suc k)) (now c (suc k)) (local-of x)) (sym moved) (stands-before (operation-after j p o)))
+            ledger-of-other (subst (λ x. Stands (held .a) (held .b) (Other j p) (Pays j p (suc k)) (now c (suc k)) (local-of x)) (sym moved) (stands-before (operation-after j p o)))
             (λ x e q. gone (dropped-now x (sym in-hand ∙ e)))
           where
             dropped-now : (x : ℕ) → o ≡ x → drop j (suc k) x ≢ 0
