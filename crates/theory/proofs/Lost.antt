@@ -5,6 +5,7 @@ pub mod Rows
 pub mod Turns
 pub mod Charges
 pub mod Ledger
+pub mod Others
 pub mod Own
 pub mod Kept
 pub mod Counts

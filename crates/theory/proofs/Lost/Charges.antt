@@ -1,11 +1,11 @@
 -- The steps by which rounds are lost and paid for, by process: a node is paid for at the step that linked it. Assumes nothing.
 use mathlib.Core.Path.{_≡_, sym, ap, _∙_}
 use mathlib.Core.Logic.{_≢_}
-use Prim.Native.Nat.{ℕ, suc, _≤_}
-use mathlib.Core.Bool.{Bool, true, false, not, _&&_, true≢false, and-eq-true-iff}
+use Prim.Native.Nat.{ℕ, suc}
+use mathlib.Core.Bool.{Bool, true, not, _&&_, true≢false, and-eq-true-iff}
 use native.Mathlib.Omega.{arith}
 use Rattle.basics.specs.Choice.{same}
-use Rattle.basics.proofs.Choice.{same-equal, equal-same, unequal-same}
+use Rattle.basics.proofs.Choice.{equal-same, unequal-same}
 use Rattle.job.specs.Job.{Job}
 use Rattle.machine.specs.declared.Event.the-variants.{Linked}
 use Rattle.machine.specs.Notes.{note}

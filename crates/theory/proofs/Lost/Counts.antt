@@ -3,12 +3,10 @@ use mathlib.Core.Path.{_≡_, refl, sym, ap, subst, _∙_}
 use mathlib.Core.Logic.{_≢_, _⊎_, inl, inr}
 use Prim.Native.Nat.{ℕ, zero, suc, _+_, _≤_}
 use mathlib.Core.Bool.{Bool, true, false, not, true≢false, and-eq-true-iff}
-use mathlib.Core.List.{List, [], _∷_, _++_}
 use native.Mathlib.Omega.{arith}
 use Rattle.basics.specs.Choice.{same}
 use Rattle.basics.proofs.Choice.{both, equal-same, unequal-same}
 use Rattle.job.specs.Job.{Job}
-use Rattle.machine.specs.declared.Event.the-variants.{Linked}
 use Rattle.machine.specs.Multiplicity.Line.{put}
 use Rattle.machine.specs.Notes.{Note, idle, note}
 use Rattle.machine.specs.Journal.{is-linked, made, links, link}
@@ -18,13 +16,13 @@ use Rattle.machine.specs.Record.{line-at, lines-to, the-record, lines-of}
 use Rattle.machine.specs.Explained.{IsOperation, put-lines}
 use Rattle.machine.specs.Lost.{tally, puts, late-drop, late-drops}
 use Rattle.machine.proofs.Effected.{effect-of-put, line-of-effect}
-use Rattle.machine.proofs.Stamps.{link-other, drop-other}
-use Rattle.theory.proofs.Course.{PassesIn, ActsIn, passes-event}
+use Rattle.machine.proofs.Stamps.{drop-other}
+use Rattle.theory.proofs.Course.{PassesIn, ActsIn}
 use Rattle.theory.proofs.Life.{operation-some, links-once}
 use Rattle.theory.proofs.Operations.{note-first, course}
 use Rattle.theory.proofs.Operations.Drops.{actor-drops-none, actor-undropped}
 use Rattle.theory.proofs.Explains.Plays.{put-lines-one-more}
-use Rattle.theory.proofs.Lost.Tallies.{tally-zero, tally-meets, tally-misses, tally-up, tally-below, tally-but-one}
+use Rattle.theory.proofs.Lost.Tallies.{tally-zero, tally-meets, tally-misses, tally-below, tally-but-one}
 use Rattle.theory.proofs.Lost.Charges.{links-at, links-gone, gone-is, gone-links, gone-dropped}
 
 -- a drop of an operation that has linked its node

@@ -1,6 +1,6 @@
 -- The ledger holds after any number of steps, whoever makes them; so what a process loses is paid for by the nodes of others, twice, and by its own that were
 -- dropped before their Q4. Assumes nothing.
-use mathlib.Core.Path.{_≡_, refl, sym, ap, subst, _∙_}
+use mathlib.Core.Path.{_≡_, sym, ap, subst, _∙_}
 use mathlib.Core.Logic.{_≢_, _⊎_, inl, inr}
 use Prim.Native.Nat.{ℕ, zero, suc, _+_, _*_, _≤_}
 use mathlib.Core.Bool.{true, false, true≢false}
@@ -13,7 +13,7 @@ use Rattle.machine.specs.declared.Event.the-variants.{Linked}
 use Rattle.machine.specs.declared.Place.{Place}
 use Rattle.machine.specs.Run.{fresh-state, state-after, operation-after}
 use Rattle.machine.specs.Notes.{idle, note}
-use Rattle.machine.specs.Journal.{is-linked, link}
+use Rattle.machine.specs.Journal.{is-linked}
 use Rattle.machine.specs.Lost.{tally}
 use Rattle.machine.proofs.Stamps.{link-zero, link-le}
 use Rattle.theory.proofs.Operations.Locals.{memory}
@@ -22,7 +22,8 @@ use Rattle.theory.proofs.Operations.Hands.OneStep.{idles, drops, acts}
 use Rattle.theory.proofs.Lost.Tallies.{tally-zero, tally-up, tally-parts}
 use Rattle.theory.proofs.Lost.Totals.{of-process, of-process-unless, of-process-other}
 use Rattle.theory.proofs.Lost.Charges.{who, links-at, links-gone, others}
-use Rattle.theory.proofs.Lost.Ledger.{as-queue, at-place, lost-by, paid-by, Ledger, stands-before, ledger-kept, ledger-dropped}
+use Rattle.theory.proofs.Lost.Ledger.{as-queue, at-place, lost-by, paid-by, Ledger, stands-before}
+use Rattle.theory.proofs.Lost.Others.{ledger-kept, ledger-dropped}
 use Rattle.theory.proofs.Lost.Own.{ledger-own}
 
 module _ (base : Job) (p : ℕ) where

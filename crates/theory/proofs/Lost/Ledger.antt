@@ -1,44 +1,37 @@
 -- The ledger of one process: every round that it lost is paid for by a node, a failed Q3 by the node that it found, a help by the node that it helped Tail to. Each
 -- node pays once for each of the two, since it pays for nodes in the order of their links; its own node pays only for a help, once its put is dropped before its Q4. Assumes nothing.
-use mathlib.Core.Path.{_≡_, refl, sym, ap, subst, _∙_}
+use mathlib.Core.Path.{_≡_, sym, subst, _∙_}
 use mathlib.Core.Logic.{_≢_, _⊎_, inl, inr}
-use Prim.Native.Nat.{ℕ, zero, suc, _+_, _≤_, _<_}
-use mathlib.Core.Bool.{Bool, true, false, and-false}
+use Prim.Native.Nat.{ℕ, suc, _+_, _≤_}
+use mathlib.Core.Bool.{Bool, true, false}
 use native.Mathlib.Omega.{arith}
-use Rattle.basics.specs.Maps.{upd}
-use Rattle.basics.proofs.Choice.{both, split, pick-else, equal-same, unequal-same}
-use Rattle.basics.proofs.Maps.{upd-here, upd-there}
+use Rattle.basics.proofs.Choice.{both, split}
 use Rattle.job.specs.declared.Kind.the-variants.{Queue}
 use Rattle.job.specs.Job.{Job}
-use Rattle.machine.specs.declared.Event.{Event}
-use Rattle.machine.specs.declared.Event.the-variants.{Quiet, Linked}
+use Rattle.machine.specs.declared.Event.the-variants.{Linked}
 use Rattle.machine.specs.declared.Place.{Place}
-use Rattle.machine.specs.Table.{ended, end-of, is-end, first-row, is-return}
-use Rattle.machine.specs.Run.{before, operation-after, registers, row-after, fresh-state, state-after}
-use Rattle.machine.specs.Notes.{idle, acted, note}
+use Rattle.machine.specs.Table.{first-row}
+use Rattle.machine.specs.Run.{before, registers, state-after}
+use Rattle.machine.specs.Notes.{note}
 use Rattle.machine.specs.Journal.{is-linked, link}
 use Rattle.machine.specs.Drops.{dropped, drop}
 use Rattle.machine.specs.Lost.{tally}
 use Rattle.machine.proofs.Effected.{linked-event}
-use Rattle.machine.proofs.Stamps.{link-other, link-unless, link-zero, link-le, link-stays, drop-new}
-use Rattle.machine.proofs.Turns.Locals.{Local, reaches, local-after, at-row}
-use Rattle.theory.proofs.Nodes.{IsLinked}
+use Rattle.machine.proofs.Stamps.{link-other, link-unless}
+use Rattle.machine.proofs.Turns.Locals.{Local, at-row}
 use Rattle.theory.proofs.Course.{Course, PassesIn, ActsIn, passes-event}
-use Rattle.theory.proofs.Life.{own-or-other}
 use Rattle.theory.proofs.Operations.{course}
-use Rattle.theory.proofs.Operations.Locals.{memory, local}
-use Rattle.theory.proofs.Operations.Hands.{place-of, next-place, Idling, Acting, Dropping, OneStep, one-step, local-own, by-own, by-nobody, place-moved, place-ended, place-dropped}
-use Rattle.theory.proofs.Operations.Hands.OneStep.{idles, drops, acts}
-use Rattle.theory.proofs.Queue.Memory.{Now, Sound, Still.quiet, Change, Change.stays, Change.links, Change.tail-moves, Change.head-moves}
+use Rattle.theory.proofs.Operations.Locals.{memory}
+use Rattle.theory.proofs.Queue.Memory.{Now, Still.quiet, Change, Change.stays, Change.links}
 use Rattle.theory.proofs.Queue.Grows.{Grows, change-grows}
 use Rattle.theory.proofs.Queue.Now.{now, passes-keeps}
-use Rattle.theory.proofs.Queue.Always.{Always, always, step-changes}
-use Rattle.theory.proofs.Lost.Tallies.{tally-zero, tally-meets, tally-misses, tally-up, tally-past, tally-below}
+use Rattle.theory.proofs.Queue.Always.{always, step-changes}
+use Rattle.theory.proofs.Lost.Tallies.{tally-below}
 use Rattle.theory.proofs.Lost.Totals.{of-process}
-use Rattle.theory.proofs.Lost.Charges.{who, links-gone, others, drop-stays, node-of-other, node-gone, gone-later}
-use Rattle.theory.proofs.Lost.Rows.{Stands, stands-grows}
+use Rattle.theory.proofs.Lost.Charges.{who, links-gone, others, drop-stays, gone-later}
+use Rattle.theory.proofs.Lost.Rows.{Stands}
 use Rattle.theory.proofs.Lost.Rows.Stands.{in-q1, in-t1}
-use Rattle.theory.proofs.Lost.Turns.{AtQ4, AtQ4.at-q4, Costs, Costs.nothing, Costs.a-failure, Costs.a-help, turn-costs, q4-settles, links-to-q4}
+use Rattle.theory.proofs.Lost.Turns.{AtQ4}
 
 -- the same operations and schedule, on a queue
 abbrev pub as-queue : Job → Job
@@ -48,23 +41,6 @@ as-queue j =
 -- a place's row and registers
 unfoldable pub local-of : Place → Local
 local-of p = record { row = p .row; registers = registers p }
-
--- a next that a step gives to a node is the node that the step links
-record NewNext (k o : ℕ) (w : Now) (i : ℕ) (e : Event) : Type 0 where
-  links-it : e ≡ Linked
-  is-own : w .next i ≡ o
-  born-now : w .born o ≡ suc k
-
-new-next : {count k o : ℕ} {v w : Now} {e : Event} → Change count k o v e w → (i : ℕ) → v .next i ≡ 0 → w .next i ≢ 0 → NewNext k o w i e
-new-next (stays s) i z n = absurd (n z)
-new-next {k = k} {o = o} {v = v} (links {t = t} b) i z n =
-    record { links-it = refl; is-own = by-node (split i t); born-now = upd-here (v .born) o (suc k) }
-  where
-    by-node : (i ≡ t) ⊎ (i ≢ t) → upd (v .next) t o i ≡ o
-    by-node (inl e) = ap (upd (v .next) t o) e ∙ upd-here (v .next) t o
-    by-node (inr m) = absurd (n (upd-there (v .next) t o m ∙ z))
-new-next (tail-moves e m) i z n = absurd (n z)
-new-next (head-moves e m h) i z n = absurd (n z)
 
 -- nodes that process p pays for: another's; and, for a help, a dropped one
 abbrev pub Other : Job → ℕ → ℕ → Type 0
@@ -109,7 +85,7 @@ module _ (base : Job) where
   c = course j
 
   -- each step changes memory by who made it
-  changes : (k : ℕ) → Change (c .count) k (note j (suc k) .by) (now c k) (note j (suc k) .event) (now c (suc k))
+  pub changes : (k : ℕ) → Change (c .count) k (note j (suc k) .by) (now c k) (note j (suc k) .event) (now c (suc k))
   changes k = by-step (c .step k)
     where
       by-step : PassesIn c k ⊎ ((o : ℕ) × ActsIn c k o) → Change (c .count) k (note j (suc k) .by) (now c k) (note j (suc k) .event) (now c (suc k))
@@ -156,56 +132,3 @@ module _ (base : Job) where
           reached (omega (arith, grows k .born-kept x (λ m. some), grows k .tail-goes-on))
       settled-kept x some (at-hand e q) hand = hand e q
       settled-kept x some (gone n) hand = gone (drop-stays j k x n)
-
-      -- step k + 1 is another's or nobody's
-      module _ (apart : note j (suc k) .event ≡ Linked → Other j p (note j (suc k) .by)) (none-lost : of-process (λ s. note j s .back) (who j) p (suc k) ≡ false) where
-        pays-new : (mark : ℕ) → mark ≤ k → (t : ℕ) → now c k .next t ≡ 0 → now c (suc k) .next t ≢ 0 → (mark < now c (suc k) .born (now c (suc k) .next t)) × Other j p (now c (suc k) .next t)
-        pays-new mark low t z n =
-            let new : NewNext k (note j (suc k) .by) (now c (suc k)) t (note j (suc k) .event) = new-next (changes k) t z n in
-            (omega (arith, ap (now c (suc k) .born) (new .is-own), new .born-now), subst (Other j p) (sym (new .is-own)) (apart (new .links-it)))
-
-        b-made : held .b ≤ k
-        b-made = omega (arith, held .b-reached, link-le (note j) k (memory j k .tail))
-
-        stands-on : {l : Local} → Stands (held .a) (held .b) (Other j p) (Pays j p k) (now c k) l → Stands (held .a) (held .b) (Other j p) (Pays j p (suc k)) (now c (suc k)) l
-        stands-on =
-            stands-grows (always c k .sound) (grows k) (pays-later k) (pays-new (held .a) (held .a-made))
-            (λ t z n. (pays-new (held .b) b-made t z n .0, inl (pays-new (held .b) b-made t z n .1)))
-
-        -- an own node was linked before
-        linked-before : (x : ℕ) → j .owner x ≡ p → link (note j) (suc k) x ≢ 0 → link (note j) k x ≢ 0
-        linked-before x own n z = let new = new-node k x z n in apart (new .1) (ap (j .owner) (new .0) ∙ own)
-
-        ledger-of-other : Stands (held .a) (held .b) (Other j p) (Pays j p (suc k)) (now c (suc k)) (at-place j p (suc k)) → ((x : ℕ) → state-after j k .places p .operation .0 ≡ x → AtQ4 (at-place j p k) → Settled j p (suc k) x) → Ledger base p (suc k)
-        unfolding lost-by
-        ledger-of-other stands hand =
-            record {
-              a = held .a;
-              b = held .b;
-              a-made = omega (arith, held .a-made);
-              b-reached = omega (arith, held .b-reached, grows k .tail-goes-on);
-              paid = omega (arith, held .paid, paid-later k (held .a) (held .b), tally-misses (of-process (λ s. note j s .back) (who j) p) k none-lost);
-              settled = λ x own n. settled-kept x (linked-before x own n) (held .settled x own (linked-before x own n)) (hand x);
-              stands = stands;
-            }
-
-        -- and p stands where it did
-        pub ledger-kept : state-after j (suc k) .places p ≡ state-after j k .places p → Ledger base p (suc k)
-        unfolding at-place
-        ledger-kept same-place =
-            ledger-of-other (subst (λ x. Stands (held .a) (held .b) (Other j p) (Pays j p (suc k)) (now c (suc k)) (local-of x)) (sym same-place) (stands-on (held .stands)))
-            (λ x e q. at-hand (ap (λ (y : Place). y .operation .0) same-place ∙ e) (subst (λ y. AtQ4 (local-of y)) (sym same-place) q))
-
-        -- or it dropped the operation in its hand
-        pub ledger-dropped : (o : ℕ) → state-after j k .places p .operation .0 ≡ o → dropped j (suc k) ≡ o → state-after j (suc k) .places p ≡ before j (operation-after j p o) → Ledger base p (suc k)
-        unfolding at-place
-        ledger-dropped o in-hand named moved =
-            ledger-of-other (subst (λ x. Stands (held .a) (held .b) (Other j p) (Pays j p (suc k)) (now c (suc k)) (local-of x)) (sym moved) (stands-before (operation-after j p o)))
-            (λ x e q. gone (dropped-now x (sym in-hand ∙ e)))
-          where
-            dropped-now : (x : ℕ) → o ≡ x → drop j (suc k) x ≢ 0
-            dropped-now x e = by-drop (split (drop j k x) 0)
-              where
-                by-drop : (drop j k x ≡ 0) ⊎ (drop j k x ≢ 0) → drop j (suc k) x ≢ 0
-                by-drop (inl z) f = let at : suc k ≡ 0 = sym (drop-new j x k (named ∙ e) z) ∙ f in omega arith
-                by-drop (inr n) f = drop-stays j k x n f

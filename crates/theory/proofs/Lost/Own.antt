@@ -1,7 +1,7 @@
 -- The ledger of a process over a step of its own: what the turn costs is paid for, and what it links is settled. Assumes nothing.
 use mathlib.Core.Path.{_≡_, refl, sym, ap, subst, _∙_}
 use mathlib.Core.Logic.{_≢_, _⊎_, inl, inr}
-use Prim.Native.Nat.{ℕ, zero, suc, _+_, _≤_, _<_}
+use Prim.Native.Nat.{ℕ, suc, _≤_, _<_}
 use mathlib.Core.Bool.{true, false}
 use native.Mathlib.Omega.{arith}
 use Rattle.basics.proofs.Choice.{both, split, pick-else}
@@ -23,7 +23,6 @@ use Rattle.theory.proofs.Life.{own-or-other}
 use Rattle.theory.proofs.Operations.{course}
 use Rattle.theory.proofs.Operations.Locals.{memory, local}
 use Rattle.theory.proofs.Operations.Hands.{place-of, next-place, Acting, local-own, by-own, place-moved, place-ended}
-use Rattle.theory.proofs.Queue.Memory.{Now}
 use Rattle.theory.proofs.Queue.Now.{now}
 use Rattle.theory.proofs.Queue.Always.{always}
 use Rattle.theory.proofs.Lost.Tallies.{tally-meets, tally-misses, tally-up, tally-past}

@@ -1,8 +1,8 @@
 -- What a turn of a queue operation costs its process: nothing, a failed Q3, or a help of Tail; and where it then stands. Assumes nothing.
-use mathlib.Core.Path.{_≡_, refl, sym, ap, subst, _∙_}
+use mathlib.Core.Path.{_≡_, refl, sym, ap, _∙_}
 use mathlib.Core.Logic.{_≢_}
-use Prim.Native.Nat.{ℕ, suc, _≤_, _<_}
-use mathlib.Core.Bool.{Bool, true, false}
+use Prim.Native.Nat.{ℕ, _≤_, _<_}
+use mathlib.Core.Bool.{true, false}
 use native.Mathlib.Omega.{arith}
 use Rattle.basics.specs.Choice.{same}
 use Rattle.machine.specs.declared.Row.the-variants.{Q4}
@@ -18,7 +18,7 @@ use Rattle.theory.proofs.Queue.Memory.{Now, Sound}
 use Rattle.theory.proofs.Queue.Grows.{Grows}
 use Rattle.theory.proofs.Queue.Rows as Queues
 use Rattle.theory.proofs.Queue.Steps.{now-of}
-use Rattle.theory.proofs.Lost.Rows.{Reached, Ahead, Stands, reached-grows, ahead-grows, tail-comes, tail-came}
+use Rattle.theory.proofs.Lost.Rows.{Ahead, Stands, reached-grows, ahead-grows, tail-comes, tail-came}
 use Rattle.theory.proofs.Lost.Rows.Stands.{in-q1, in-q2, in-q3, in-q4, in-q5, in-t1, in-t2, in-t3, in-t4, in-t5, in-done, in-item, in-empty}
 
 -- an operation that has linked its node, before its Q4
