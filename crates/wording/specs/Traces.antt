@@ -1,11 +1,12 @@
 -- Traces, as one table of jobs and whole reports: those that document 01 marks M ("M is proved"), as document 02 has them, and behind them
 -- twenty-four of our own, so that every outcome of every row happens in some trace: seven of them are of the two-way linked stack, seven of drops and
 -- five of lost rounds, of which document 02 has no trace. The reports are worked out from the papers by hand.
--- `traces-proved` says that the definitions accept every job and give its report, by computation.
+-- `traces-proved` says that the definitions accept every job and give its report, by computation; `bounds-proved`, what the traces of lost rounds could lose at most.
 use mathlib.Core.Path.{_≡_, refl}
 use Prim.Native.Nat.{ℕ, _-_}
 use Prim.Native.String.{String}
 use mathlib.Core.List.{List, [], _∷_, map}
+use lib.ListN as Lists
 use Rattle.basics.specs.Choice.{pick, same, less}
 use Rattle.basics.specs.Maps.{at, upd}
 use Rattle.basics.specs.Words.{word, word-bytes}
@@ -30,9 +31,11 @@ use Rattle.machine.specs.Notes.{answer-at, answer-of, is-answer, event-of, idle
 use Rattle.machine.specs.Journal.{is-round, is-linked, item-of, moved-to, earliest, latest, made, begins-round, links, joins, ends, first, last, answer, start, link, join, taken}
 use Rattle.machine.specs.Drops.{dropped-next, dropped, drop}
 use Rattle.machine.specs.Effects.{numbers, sift, largest, takers, first-move, latest-start, takes-at, is-empty, effect}
-use Rattle.machine.specs.Record.{if-at, line-at, lines-to, the-record}
+use Rattle.machine.specs.Record.{if-at, line-at, lines-to, the-record, lines-of}
 use Rattle.machine.specs.Left.{walk, left-in, left}
-use Rattle.machine.specs.Lost.{tally, lost}
+use Rattle.machine.specs.Explained.{put-lines}
+use Rattle.machine.specs.Lost.{tally, lost, puts, late-drop, late-drops}
+use Rattle.theory.specs.Bounded.{most-lost}
 use Rattle.wording.specs.Report.{object-line, action-text, answer-text, end-text, progress-text, operation-line, operation-lines, spaced, effect-text, record-line, record-lines, lost-line, left-line, report}
 
 -- a job, as its stream, and its whole report
@@ -245,10 +248,11 @@ traces =
       job = stream 1 2 (put 0 500 ∷ put 1 510 ∷ []) (1 ∷ 1 ∷ 0 ∷ 0 ∷ 0 ∷ 1 ∷ 1 ∷ 1 ∷ 1 ∷ []);
       expected = "object queue\nop 1 process 0 put 50 first 3 last - open\nop 2 process 1 put 51 first 1 last - open\nat 5 put 1\nlost 2\nleft 1 1\n";
     }
-    -- One process, which loses a round by its own drop: put 1 is dropped between its changing Q3 and its Q4, so put 2 helps Tail to it, Q1 Q2 Q5, then Q1 Q2 Q3 Q4. 2 × 0 × 2 + 1.
+    -- One process, which loses a round by its own drop: put 1 is dropped between its changing Q3 and its Q4, so put 2 helps Tail to it, Q1 Q2 Q5, then Q1 Q2 Q3 Q4. Put 3 is dropped
+    -- behind its Q1, which costs nothing: 2 × 0 × 2 + 1.
     ∷ record {
-      job = stream 1 1 (put 0 500 ∷ put 0 510 ∷ []) (0 ∷ 0 ∷ 0 ∷ 128 ∷ 0 ∷ 0 ∷ 0 ∷ 0 ∷ 0 ∷ 0 ∷ 0 ∷ []);
-      expected = "object queue\nop 1 process 0 put 50 first 1 last - dropped\nop 2 process 0 put 51 first 5 last 11 done\nat 3 put 1\nat 10 put 2\nlost 1\nleft 2 1 2\n";
+      job = stream 1 1 (put 0 500 ∷ put 0 510 ∷ put 0 520 ∷ []) (0 ∷ 0 ∷ 0 ∷ 128 ∷ 0 ∷ 0 ∷ 0 ∷ 0 ∷ 0 ∷ 0 ∷ 0 ∷ 0 ∷ 128 ∷ []);
+      expected = "object queue\nop 1 process 0 put 50 first 1 last - dropped\nop 2 process 0 put 51 first 5 last 11 done\nop 3 process 0 put 52 first 12 last - dropped\nat 3 put 1\nat 10 put 2\nlost 1\nleft 2 1 2\n";
     }
     ∷ []
 
@@ -267,3 +271,11 @@ promised t = record { number = 0; text = text (t .expected) }
 pub traces-proved : map replayed traces ≡ map promised traces
 unfolding put take below joined-records header stream traces replayed promised pick same less at upd word word-bytes text digits decimal block-size payload-size summed-size add-byte add-bytes sums block payload-of sum-differs misplaced block-refusal kind-number kinds look-up kind-of is-missing kind-found kind processes operations schedule-length record-at process action value scheduled slot-of process-of stream-length first-met any outside bad-kind bad-processes bad-operations bad-schedule-length exact-count bad-record bad-records bad-entry bad-schedule bad-padding header-conditions list-conditions most-file zeros block-at block-count payloads joined blocks padded file-of bad-length blocks-refusal bad-count stream-refusal file-refusal job-of fresh-memory set-from-to yes-if with-head with-tail with-top with-next with-mark with-upper row table position row-of successor end-of is-end ended is-return first-row have-read have-set access seek operation-after before fresh-state reach registers reached row-after place-after resting acting dropping step state-after answer-at answer-of is-answer event-of is-round is-linked item-of moved-to idle acted note-next note earliest latest made begins-round links joins ends first last answer start link join taken dropped-next dropped drop numbers sift largest takers first-move latest-start takes-at is-empty effect if-at line-at lines-to the-record walk left-in left tally lost millimetres half-way even-one nearest centimetres signed-decimal stage-text object-line action-text answer-text end-text progress-text operation-line operation-lines spaced effect-text record-line record-lines lost-line left-line report
 traces-proved = refl
+
+-- of the last five traces, 2 × (P − 1) × K + D, by hand: the fourth and the fifth lose as much
+unfoldable pub bound-of : Trace → ℕ
+bound-of t = most-lost (job-of (t .job)) (schedule-length (t .job)) (processes (t .job))
+
+pub bounds-proved : map bound-of (Lists.drop 31 traces) ≡ 4 ∷ 4 ∷ 2 ∷ 2 ∷ 1 ∷ []
+unfolding put take below joined-records header stream traces replayed promised pick same less at upd word word-bytes text digits decimal block-size payload-size summed-size add-byte add-bytes sums block payload-of sum-differs misplaced block-refusal kind-number kinds look-up kind-of is-missing kind-found kind processes operations schedule-length record-at process action value scheduled slot-of process-of stream-length first-met any outside bad-kind bad-processes bad-operations bad-schedule-length exact-count bad-record bad-records bad-entry bad-schedule bad-padding header-conditions list-conditions most-file zeros block-at block-count payloads joined blocks padded file-of bad-length blocks-refusal bad-count stream-refusal file-refusal job-of fresh-memory set-from-to yes-if with-head with-tail with-top with-next with-mark with-upper row table position row-of successor end-of is-end ended is-return first-row have-read have-set access seek operation-after before fresh-state reach registers reached row-after place-after resting acting dropping step state-after answer-at answer-of is-answer event-of is-round is-linked item-of moved-to idle acted note-next note earliest latest made begins-round links joins ends first last answer start link join taken dropped-next dropped drop numbers sift largest takers first-move latest-start takes-at is-empty effect if-at line-at lines-to the-record walk left-in left tally lost millimetres half-way even-one nearest centimetres signed-decimal stage-text object-line action-text answer-text end-text progress-text operation-line operation-lines spaced effect-text record-line record-lines lost-line left-line report puts lines-of put-lines late-drop late-drops most-lost bound-of
+bounds-proved = refl
