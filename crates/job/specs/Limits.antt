@@ -27,5 +27,5 @@ pub record Sound (l : Limits) : Type 0 where
   pub places : l .processes ≤ field .processes
   pub rows : l .operations ≤ field .operations
   pub cells : l .steps ≤ field .steps
-  -- and the longest report fits: at most 23 bytes and 102 for each operation
-  pub report-fits : 23 + 102 * l .operations ≤ l .report
+  -- and the longest report fits: at most 34 bytes and 102 for each operation
+  pub report-fits : 34 + 102 * l .operations ≤ l .report

@@ -1,5 +1,5 @@
 -- The laws by which everything above uses the definitions: lists and searches, what one more step does to a search, the step table as turns,
--- what goes by the kind, an effect by its cases, the record by its steps, a step by what the schedule names, and the bounds of every cell.
+-- what goes by the kind, an effect by its cases, the record by its steps, a step by what the schedule names, the bounds of every cell, and counts of steps.
 pub mod Lists
 pub mod Searches
 pub mod Stamps
@@ -9,3 +9,4 @@ pub mod Effected
 pub mod Placed
 pub mod Slots
 pub mod Bounds
+pub mod Tallies

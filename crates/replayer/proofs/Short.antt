@@ -37,6 +37,6 @@ report-short {l} sound file accepted b =
     let counts = fine-counts (stream-good file g .fine) in
     let few : operations (stream-of file) ≤ l .operations = counts .0 in
     let short : schedule-length (stream-of file) ≤ l .steps = counts .1 in
-    let bound : length (report (job-of (stream-of file))) ≤ 23 + 102 * operations (stream-of file) =
+    let bound : length (report (job-of (stream-of file))) ≤ 34 + 102 * operations (stream-of file) =
     report-bounded (job-of (stream-of file)) (fits (stream-of file) (stream-bytes file b) (omega (arith, sound .rows)) (omega (arith, sound .cells))) in
     omega (arith, sound .report-fits)

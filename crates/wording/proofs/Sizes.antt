@@ -1,4 +1,4 @@
--- How long the report is: at most 23 bytes and 102 for each operation, if numbers have the digits that an accepted job's have. Assumes
+-- How long the report is: at most 34 bytes and 102 for each operation, if numbers have the digits that an accepted job's have. Assumes
 -- nothing.
 use mathlib.Core.Path.{_≡_, refl, ap, subst}
 use mathlib.Core.Logic.{_≢_, _⊎_, inl, inr}
@@ -22,10 +22,12 @@ use Rattle.machine.specs.Journal.{first, last, answer}
 use Rattle.machine.specs.Drops.{drop}
 use Rattle.machine.specs.Record.{Recorded, the-record}
 use Rattle.machine.specs.Left.{left}
+use Rattle.machine.specs.Lost.{lost}
 use Rattle.machine.specs.Explained.{members, Says, Answered, IsOperation, Explained}
-use Rattle.wording.specs.Report.{object-line, action-text, answer-text, end-text, progress-text, operation-line, operation-lines, spaced, effect-text, record-line, record-lines, left-line, report}
+use Rattle.wording.specs.Report.{object-line, action-text, answer-text, end-text, progress-text, operation-line, operation-lines, spaced, effect-text, record-line, record-lines, lost-line, left-line, report}
 use Rattle.machine.proofs.Stamps.{first-le, last-le}
 use Rattle.machine.proofs.Placed.{Placed, placed}
+use Rattle.machine.proofs.Tallies.{lost-le}
 use Rattle.theory.proofs.Theorem.{explained}
 use Rattle.wording.proofs.Endings.{ended-reads, open-reads, dropped-reads}
 use Rattle.wording.proofs.Sizes.Items.{FromPuts, handed-out}
@@ -62,6 +64,12 @@ module _ (j : Job) (fits : Fits j) where
 
   step-length : (s : ℕ) → s ≤ j .steps → length (decimal s) ≤ 5
   step-length s h = decimal-length 4 s (omega (arith, fits .steps))
+
+  lost-line-length : (object : Kind) → length (lost-line object (lost (note j) (j .steps))) ≤ 11
+  unfolding lost-line text
+  lost-line-length Queue = simp length-append (omega (arith, step-length (lost (note j) (j .steps)) (lost-le (note j) (j .steps))))
+  lost-line-length Stack = omega arith
+  lost-line-length TwoWay = omega arith
 
   action-length : (o : ℕ) → IsOperation (j .count) o → length (action-text j o) ≤ 10
   unfolding action-text text
@@ -147,11 +155,11 @@ module _ (j : Job) (fits : Fits j) where
     left-line-length =
         simp length-append (omega (arith, left-count j (j .steps) ex, decimal-length 2 (length (left j (j .steps))) (omega (arith, left-count j (j .steps) ex, fits .operations)), spaced-length (left j (j .steps)) (λ x m. omega (arith, fits .operations, left-operation j (j .steps) ex x m))))
 
-    report-length : length (report j) ≤ 23 + 102 * j .count
+    report-length : length (report j) ≤ 34 + 102 * j .count
     unfolding report
     report-length =
-        simp length-append (omega (arith, object-length (j .object), operation-lines-length (j .count) (omega arith), record-lines-length (the-record j (j .steps)) (λ r m. m), members-count j (j .steps) ex, left-line-length))
+        simp length-append (omega (arith, object-length (j .object), operation-lines-length (j .count) (omega arith), record-lines-length (the-record j (j .steps)) (λ r m. m), members-count j (j .steps) ex, lost-line-length (j .object), left-line-length))
 
 -- the report of any job with such numbers
-pub report-bounded : (j : Job) → Fits j → length (report j) ≤ 23 + 102 * j .count
+pub report-bounded : (j : Job) → Fits j → length (report j) ≤ 34 + 102 * j .count
 report-bounded j fits = report-length j fits (explained j (j .steps))
