@@ -11,25 +11,21 @@ pub mod Kept
 pub mod Counts
 use mathlib.Core.Path.{_≡_, refl, sym, ap, subst, _∙_}
 use Prim.Native.Nat.{ℕ, zero, suc, _+_, _-_, _*_, _≤_, _<_}
-use mathlib.Core.Bool.{true, false, not, _&&_}
+use mathlib.Core.Bool.{true}
 use native.Mathlib.Nat.{suc-mul, zero-mul, mul-comm, mul-assoc, mul-le-mul-left}
 use native.Mathlib.Omega.{arith}
-use Rattle.basics.specs.Choice.{same}
-use Rattle.basics.proofs.Choice.{equal-same}
 use Rattle.job.specs.declared.Kind.the-variants.{Queue}
 use Rattle.job.specs.Job.{Job}
 use Rattle.machine.specs.Notes.{idle, note}
-use Rattle.machine.specs.Journal.{link}
 use Rattle.machine.specs.Drops.{dropped}
 use Rattle.machine.specs.Explained.{IsOperation}
-use Rattle.machine.specs.Lost.{tally, lost, puts, late-drop, late-drops}
-use Rattle.theory.specs.Bounded.{most-lost, Bounded}
-use Rattle.theory.proofs.Lost.Tallies.{tally-none}
+use Rattle.machine.specs.Lost.{tally, lost}
+use Rattle.theory.specs.Bounded.{puts, most-lost, Bounded}
 use Rattle.theory.proofs.Lost.Totals.{total, total-none, of-process, total-tally, total-bound}
 use Rattle.theory.proofs.Lost.Charges.{who, links-at, links-gone, gone-links}
 use Rattle.theory.proofs.Lost.Ledger.{as-queue, lost-by}
 use Rattle.theory.proofs.Lost.Kept.{lost-by-bound}
-use Rattle.theory.proofs.Lost.Counts.{maker, linker, links-are-puts, gone-are-drops}
+use Rattle.theory.proofs.Lost.Counts.{maker, linker, links-are-puts, gone-are-drops, no-late-drops}
 
 -- the processes of a job's operations are among 0 to P − 1
 abbrev pub Owned : Job → ℕ → Type 0
@@ -73,13 +69,10 @@ module _ (base : Job) (k P : ℕ) (owned : Owned base P) where
           omega (arith, together, gone-are-drops j k)
 
   queue-alone : P ≡ 1 → ((s : ℕ) → s ≤ k → dropped j s ≡ 0) → lost (note j) k ≡ 0
-  unfolding most-lost late-drops late-drop
+  unfolding most-lost
   queue-alone e none =
       let less : 2 * (P - 1) * puts j k ≡ 0 = ap (λ n. 2 * (n - 1) * puts j k) e ∙ zero-mul (puts j k) in
-      omega (arith, queue-at-most, tally-none (late-drop j) k (λ s low high. no-late-drop s (none s high)))
-    where
-      no-late-drop : (s : ℕ) → dropped j s ≡ 0 → late-drop j s ≡ false
-      no-late-drop s z = ap (λ b. not b && not (same (link (note j) s (dropped j s)) 0)) (equal-same z)
+      omega (arith, queue-at-most, no-late-drops j k none)
 
 pub lost-bounded : (j : Job) (k P : ℕ) → j .object ≡ Queue → Owned j P → Bounded j k P
 lost-bounded j k P e owned = subst (λ x. Bounded x k P) (λ i. record { object = sym e i; count = j .count; owner = j .owner; is-put = j .is-put; field = j .field; steps = j .steps; slot = j .slot }) (record { at-most = queue-at-most j k P owned; alone = queue-alone j k P owned })

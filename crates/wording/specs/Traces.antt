@@ -34,8 +34,8 @@ use Rattle.machine.specs.Effects.{numbers, sift, largest, takers, first-move, l
 use Rattle.machine.specs.Record.{if-at, line-at, lines-to, the-record, lines-of}
 use Rattle.machine.specs.Left.{walk, left-in, left}
 use Rattle.machine.specs.Explained.{put-lines}
-use Rattle.machine.specs.Lost.{tally, lost, puts, late-drop, late-drops}
-use Rattle.theory.specs.Bounded.{most-lost}
+use Rattle.machine.specs.Lost.{tally, lost}
+use Rattle.theory.specs.Bounded.{puts, late-drop, late-drops, most-lost}
 use Rattle.wording.specs.Report.{object-line, action-text, answer-text, end-text, progress-text, operation-line, operation-lines, spaced, effect-text, record-line, record-lines, lost-line, left-line, report}
 
 -- a job, as its stream, and its whole report

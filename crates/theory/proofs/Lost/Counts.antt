@@ -2,7 +2,7 @@
 use mathlib.Core.Path.{_≡_, refl, sym, ap, subst, _∙_}
 use mathlib.Core.Logic.{_≢_, _⊎_, inl, inr}
 use Prim.Native.Nat.{ℕ, zero, suc, _+_, _≤_}
-use mathlib.Core.Bool.{Bool, true, false, not, true≢false, and-eq-true-iff}
+use mathlib.Core.Bool.{Bool, true, false, not, _&&_, true≢false, and-eq-true-iff}
 use native.Mathlib.Omega.{arith}
 use Rattle.basics.specs.Choice.{same}
 use Rattle.basics.proofs.Choice.{both, equal-same, unequal-same}
@@ -14,7 +14,8 @@ use Rattle.machine.specs.Drops.{dropped, drop}
 use Rattle.machine.specs.Effects.Effect.{stands}
 use Rattle.machine.specs.Record.{line-at, lines-to, the-record, lines-of}
 use Rattle.machine.specs.Explained.{IsOperation, put-lines}
-use Rattle.machine.specs.Lost.{tally, puts, late-drop, late-drops}
+use Rattle.machine.specs.Lost.{tally}
+use Rattle.theory.specs.Bounded.{puts, late-drop, late-drops}
 use Rattle.machine.proofs.Effected.{effect-of-put, line-of-effect}
 use Rattle.machine.proofs.Stamps.{drop-other}
 use Rattle.theory.proofs.Course.{PassesIn, ActsIn}
@@ -22,13 +23,22 @@ use Rattle.theory.proofs.Life.{operation-some, links-once}
 use Rattle.theory.proofs.Operations.{note-first, course}
 use Rattle.theory.proofs.Operations.Drops.{actor-drops-none, actor-undropped}
 use Rattle.theory.proofs.Explains.Plays.{put-lines-one-more}
-use Rattle.theory.proofs.Lost.Tallies.{tally-zero, tally-meets, tally-misses, tally-below, tally-but-one}
+use Rattle.theory.proofs.Lost.Tallies.{tally-zero, tally-meets, tally-misses, tally-none, tally-below, tally-but-one}
 use Rattle.theory.proofs.Lost.Charges.{links-at, links-gone, gone-is, gone-links, gone-dropped}
 
 -- a drop of an operation that has linked its node
 late-drop-is : (j : Job) (s : ℕ) → dropped j s ≢ 0 → link (note j) s (dropped j s) ≢ 0 → late-drop j s ≡ true
 unfolding late-drop
 late-drop-is j s n m = and-eq-true-iff (not (same (dropped j s) 0)) (not (same (link (note j) s (dropped j s)) 0)) .1 (ap not (unequal-same n), ap not (unequal-same m))
+
+-- and a step that drops none
+late-drop-not : (j : Job) (s : ℕ) → dropped j s ≡ 0 → late-drop j s ≡ false
+unfolding late-drop
+late-drop-not j s z = ap (λ b. not b && not (same (link (note j) s (dropped j s)) 0)) (equal-same z)
+
+pub no-late-drops : (j : Job) (k : ℕ) → ((s : ℕ) → s ≤ k → dropped j s ≡ 0) → late-drops j k ≡ 0
+unfolding late-drops
+no-late-drops j k none = tally-none (late-drop j) k (λ s low high. late-drop-not j s (none s high))
 
 module _ (j : Job) where
   -- a step that is not idle is an operation's
