@@ -3,10 +3,12 @@ use job::Limits;
 use job::Reply;
 ghost use mathlib.Core.Path.{_≡_};
 ghost use Prim.Native.Nat.{_<_, _^_};
+ghost use Rattle.job.specs.declared.Kind.the-variants.{Queue};
 ghost use Rattle.job.specs.Limits.{field};
 ghost use Rattle.job.specs.Calls.{read-number, read-length, read-work, write-number, write-length, write-out};
 ghost use Rattle.machine.specs.Explained.{Explained};
-ghost use Rattle.replayer.specs.Replay.{job-in, replay-number, replay-length, replay-report, replay-work};
+ghost use Rattle.theory.specs.Bounded.{Bounded};
+ghost use Rattle.replayer.specs.Replay.{job-in, processes-in, replay-number, replay-length, replay-report, replay-work};
 ghost use Rattle.bench.specs.Packed.{packed};
 
 // A reply as one number.
@@ -24,6 +26,7 @@ pub extern "C" fn bench_replay(file: &[u8], work: &mut [u8], report: &mut [u8]) 
     ensures report { λ r. ⌜ now (report .exit) ≡ replay-report field (now (file .entry)) (now (work .entry)) (now (report .entry)) ⌝ }
     ensures work { λ r. ⌜ now (work .exit) ≡ replay-work field (now (file .entry)) (now (work .entry)) (now (report .entry)) ⌝ }
     ensures explained { λ r. ⌜ (replay-number field (now (file .entry)) (now (work .entry)) (now (report .entry)) ≡ 0 → Explained (job-in (now (file .entry))) (job-in (now (file .entry)) .steps)) ⌝ }
+    ensures bounded { λ r. ⌜ (replay-number field (now (file .entry)) (now (work .entry)) (now (report .entry)) ≡ 0 → job-in (now (file .entry)) .object ≡ Queue → Bounded (job-in (now (file .entry))) (job-in (now (file .entry)) .steps) (processes-in (now (file .entry)))) ⌝ }
 {
     pack(replayer::replay(Limits::field(), file, work, report))
 }

@@ -11,6 +11,7 @@ use lib.Seq.{take-at, drop-at}
 use Rattle.basics.specs.Bytes.{Bytes}
 use Rattle.basics.specs.Choice.{pick, same}
 use Rattle.basics.proofs.Choice.{both, pick-then, pick-else, equal-same, unequal-same, lt-less, le-less, less-le}
+use Rattle.job.specs.declared.Kind.the-variants.{Queue}
 use Rattle.job.specs.declared.Limits.{Limits}
 use Rattle.job.specs.Limits.{most-stream, Sound}
 use Rattle.job.specs.File.{zeros, file-refusal, stream-of, zeros-behind, zero-filled}
@@ -21,11 +22,14 @@ use Rattle.job.proofs.Accepted.{Good-file, accepted-good}
 use Rattle.job.proofs.View.{filled-long, filled-ready, filled-job}
 use Rattle.wording.specs.Report.{report}
 use Rattle.machine.specs.Explained.{Explained}
+use Rattle.theory.specs.Bounded.{Bounded}
 use Rattle.theory.proofs.Theorem.{explained}
+use Rattle.theory.proofs.Lost.{lost-bounded}
 use Rattle.text.specs.Laid.{laid}
 use Rattle.report.specs.Reported.{Reported}
 use Rattle.replayer.proofs.Short.{report-short}
-use Rattle.replayer.specs.Replay.{small-memory, job-in, report-of, replay-number, replay-length, replay-report, replay-work}
+use Rattle.replayer.proofs.Owned.{owned}
+use Rattle.replayer.specs.Replay.{small-memory, job-in, processes-in, report-of, replay-number, replay-length, replay-report, replay-work}
 
 -- what a replay says and leaves
 abbrev pub Replied : Limits → List ℕ → List ℕ → List ℕ → ℕ → ℕ → List ℕ → List ℕ → Type 0
@@ -33,7 +37,9 @@ Replied l file work out number size out′ work′ =
     (number ≡ replay-number l file work out)
     × ((size ≡ replay-length l file work out)
     × ((out′ ≡ replay-report l file work out)
-    × ((work′ ≡ replay-work l file work out) × (number ≡ 0 → Explained (job-in file) (job-in file .steps)))))
+    × ((work′ ≡ replay-work l file work out)
+    × ((number ≡ 0 → Explained (job-in file) (job-in file .steps))
+    × (number ≡ 0 → job-in file .object ≡ Queue → Bounded (job-in file) (job-in file .steps) (processes-in file))))))
 
 module _ (l : Limits) (file work out : List ℕ) where
   -- what follows from the number alone
@@ -41,7 +47,7 @@ module _ (l : Limits) (file work out : List ℕ) where
   unfolding replay-length replay-report
   refused e n z w =
       let no : same (replay-number l file work out) 0 ≡ false = unequal-same (λ q. n (e ∙ q)) in
-      (e, (z ∙ sym (pick-else _ _ no), (sym (pick-else _ _ no), (w, λ a. absurd (n a)))))
+      (e, (z ∙ sym (pick-else _ _ no), (sym (pick-else _ _ no), (w, (λ a. absurd (n a), λ a. absurd (n a))))))
 
   -- the report memory is too small: nothing is touched
   pub small-refused : {number size : ℕ} → length out < l .report → number ≡ 1 → size ≡ 0 → Replied l file work out number size out work
@@ -145,7 +151,7 @@ module _ (l : Limits) (file work out : List ℕ) where
                   w ∙ ap (λ rest. replicate (most-stream l) 0 ++ rest) (ap (drop (most-stream l)) r ∙ back-read)
                       ∙ ap (λ n. replicate n 0 ++ drop (most-stream l) work) (let z : most-stream l ≡ most-stream l - 0 = omega arith in z)
                       ∙ sym (pick-else _ _ large),
-                  λ a. explained (job-in file) (job-in file .steps),
+                  (λ a. explained (job-in file) (job-in file .steps), λ a queue. lost-bounded (job-in file) (job-in file .steps) (processes-in file) queue (owned file good)),
                 ),
               ),
             ),

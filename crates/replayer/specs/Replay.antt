@@ -5,6 +5,7 @@ use mathlib.Core.List.{List, [], _++_}
 use lib.ListN.{length, drop}
 use Rattle.basics.specs.Choice.{pick, same, less}
 use Rattle.job.specs.declared.Limits.{Limits}
+use Rattle.job.specs.Stream.{processes}
 use Rattle.job.specs.File.{file-refusal, stream-of}
 use Rattle.job.specs.Calls.{small-work, held}
 use Rattle.job.specs.Job.{Job, job-of}
@@ -21,6 +22,10 @@ replay-number l file work out = pick (small-memory l work out) 1 (file-refusal l
 -- the job in an accepted file
 unfoldable pub job-in : List ℕ → Job
 job-in file = job-of (stream-of file)
+
+-- the number of its processes, P
+unfoldable pub processes-in : List ℕ → ℕ
+processes-in file = processes (stream-of file)
 
 -- the report of the job in an accepted file
 unfoldable pub report-of : List ℕ → List ℕ

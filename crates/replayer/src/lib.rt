@@ -7,15 +7,17 @@ ghost use mathlib.Core.Path.{_≡_};
 ghost use Prim.Native.Nat.{_≤_};
 ghost use mathlib.Core.List.{_++_};
 ghost use lib.ListN.{length, take, drop};
+ghost use Rattle.job.specs.declared.Kind.the-variants.{Queue};
 ghost use Rattle.job.specs.Limits.{most-stream, Sound};
 ghost use Rattle.job.specs.File.{zeros};
 ghost use Rattle.job.specs.Job.{job-of};
 ghost use Rattle.job.specs.Ready.{Ready};
 ghost use Rattle.wording.specs.Report as Report;
 ghost use Rattle.machine.specs.Explained.{Explained};
+ghost use Rattle.theory.specs.Bounded.{Bounded};
 ghost use Rattle.run.specs.Promise.{Room, AllBlank};
 ghost use Rattle.report.specs.Reported.{Reported};
-ghost use Rattle.replayer.specs.Replay.{job-in, replay-number, replay-length, replay-report, replay-work};
+ghost use Rattle.replayer.specs.Replay.{job-in, processes-in, replay-number, replay-length, replay-report, replay-work};
 
 // Runs the job of a stream in blank lent memory, and writes its report.
 fn replay_in(
@@ -67,6 +69,7 @@ pub fn replay(limits: Limits, file: &[u8], work: &mut [u8], report: &mut [u8]) -
     ensures report { λ r. ⌜ now (report .exit) ≡ replay-report limits (now (file .entry)) (now (work .entry)) (now (report .entry)) ⌝ }
     ensures work { λ r. ⌜ now (work .exit) ≡ replay-work limits (now (file .entry)) (now (work .entry)) (now (report .entry)) ⌝ }
     ensures explained { λ r. ⌜ (r .number ≡ 0 → Explained (job-in (now (file .entry))) (job-in (now (file .entry)) .steps)) ⌝ }
+    ensures bounded { λ r. ⌜ (r .number ≡ 0 → job-in (now (file .entry)) .object ≡ Queue → Bounded (job-in (now (file .entry))) (job-in (now (file .entry)) .steps) (processes-in (now (file .entry)))) ⌝ }
 {
     if report.len() < limits.report {
         return Reply::refused(1);

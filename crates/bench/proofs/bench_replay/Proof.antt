@@ -30,7 +30,13 @@ returns c =
       c .pack .ensures ∙ (λ i. packed (e .0 i) (e .1 .0 i)) ∙ (λ i. packed (replay-number (limits i) (p .file .now) (p .work .now) (p .report .now)) (replay-length (limits i) (p .file .now) (p .work .now) (p .report .now))),
       (
         e .1 .1 .0 ∙ (λ i. replay-report (limits i) (p .file .now) (p .work .now) (p .report .now)),
-        (e .1 .1 .1 .0 ∙ (λ i. replay-work (limits i) (p .file .now) (p .work .now) (p .report .now)), λ z. e .1 .1 .1 .1 (e .0 ∙ (λ i. replay-number (limits i) (p .file .now) (p .work .now) (p .report .now)) ∙ z)),
+        (
+          e .1 .1 .1 .0 ∙ (λ i. replay-work (limits i) (p .file .now) (p .work .now) (p .report .now)),
+          (
+            λ z. e .1 .1 .1 .1 .0 (e .0 ∙ (λ i. replay-number (limits i) (p .file .now) (p .work .now) (p .report .now)) ∙ z),
+            λ z. e .1 .1 .1 .1 .1 (e .0 ∙ (λ i. replay-number (limits i) (p .file .now) (p .work .now) (p .report .now)) ∙ z),
+          ),
+        ),
       ),
     )
 
