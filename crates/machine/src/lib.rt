@@ -113,10 +113,12 @@ pub enum Event {
     Raised(u16),
 }
 
-// What a run leaves beside the lent memory: the object's cells, and a step behind which every step of the schedule is idle.
+// What a run leaves beside the lent memory: the object's cells, a step behind which every step of the schedule is idle, and how many
+// rounds were lost.
 pub struct Finish {
     pub head: u16,
     pub tail: u16,
     pub top: u16,
     pub reach: Step,
+    pub lost: u16,
 }

@@ -13,7 +13,7 @@ use Rattle.job.specs.declared.Heading.{Heading}
 use Rattle.job.specs.Job.{Job, heading-of}
 use Rattle.machine.specs.declared.Finish.{Finish}
 use Rattle.machine.specs.Record.{Recorded, the-record}
-use Rattle.wording.specs.Report.{object-line, operation-lines, record-lines, left-line, report}
+use Rattle.wording.specs.Report.{object-line, operation-lines, record-lines, lost-line, left-line, report}
 use Rattle.journal.specs.Journal.{Agrees}
 use Rattle.lines.specs.Members.{first-node, left-from, NodesThere, UppersThere}
 use Rattle.report.specs.Found.{found-lines, Within}
@@ -35,16 +35,16 @@ uppers-there {j} {h} {nodes} {end} l =
     subst (UppersThere nodes) (sym count) (uppers-held j (h .steps) (end .head) (end .tail) (end .top) nodes (l .memory) (omega (arith, count, l .has-nodes)))
 
 -- what the parts of a report ask, and that they are the whole in their order
-pub record Parts (j : Job) (h : Heading) (ops by nodes : List ℕ) (reach node : ℕ) : Type 0 where
+pub record Parts (j : Job) (h : Heading) (ops by nodes : List ℕ) (reach lost node : ℕ) : Type 0 where
   pub count : h .count ≡ j .count
   pub short : j .steps < dropped-mark
   pub agrees : Agrees j (j .steps) (cells ops)
   pub within : Within ops by (h .count) reach
   pub nodes-there : NodesThere nodes (h .count) node
-  pub whole : object-line (h .object) ++ operation-lines j (j .steps) (h .count) ++ record-lines (found-lines (cells ops) (at by) (h .count) reach) ++ left-line (left-from (h .object) nodes node (h .count)) ≡ report j
+  pub whole : object-line (h .object) ++ operation-lines j (j .steps) (h .count) ++ record-lines (found-lines (cells ops) (at by) (h .count) reach) ++ lost-line (h .object) lost ++ left-line (left-from (h .object) nodes node (h .count)) ≡ report j
 
 -- of the job's own heading
-parts-of-job : (j : Job) {ops by nodes : List ℕ} {end : Finish} → Leaves j (heading-of j) ops by nodes end → Parts j (heading-of j) ops by nodes (end .reach .0) (first-node (j .object) nodes (end .head) (end .top) (j .count))
+parts-of-job : (j : Job) {ops by nodes : List ℕ} {end : Finish} → Leaves j (heading-of j) ops by nodes end → Parts j (heading-of j) ops by nodes (end .reach .0) (end .lost) (first-node (j .object) nodes (end .head) (end .top) (j .count))
 unfolding report the-record
 parts-of-job j {ops} {by} {nodes} {end} l =
     record {
@@ -59,15 +59,15 @@ parts-of-job j {ops} {by} {nodes} {end} l =
       };
       nodes-there = nodes-held j (j .steps) (end .head) (end .tail) (end .top) nodes (l .memory) (l .has-nodes);
       whole =
-          ap₂ (λ (r : List Recorded) (items : List ℕ). object-line (j .object) ++ operation-lines j (j .steps) (j .count) ++ record-lines r ++ left-line items)
-          (lines-held j (l .journal) (l .short) (end .reach .0) (l .behind .within) ∙ all-lines-to-reach j (l .behind))
-          (left-held j (j .steps) (end .head) (end .tail) (end .top) nodes (l .memory));
+          let lines : found-lines (cells ops) (at by) (j .count) (end .reach .0) ≡ the-record j (j .steps) = lines-held j (l .journal) (l .short) (end .reach .0) (l .behind .within) ∙ all-lines-to-reach j (l .behind) in
+          let items = left-held j (j .steps) (end .head) (end .tail) (end .top) nodes (l .memory) in
+          λ i. object-line (j .object) ++ operation-lines j (j .steps) (j .count) ++ record-lines (lines i) ++ lost-line (j .object) (l .lost i) ++ left-line (items i);
     }
 
-pub parts : {j : Job} {h : Heading} {ops by nodes : List ℕ} {end : Finish} {node : ℕ} → Leaves j h ops by nodes end → node ≡ first-node (h .object) nodes (end .head) (end .top) (h .count) → Parts j h ops by nodes (end .reach .0) node
+pub parts : {j : Job} {h : Heading} {ops by nodes : List ℕ} {end : Finish} {node : ℕ} → Leaves j h ops by nodes end → node ≡ first-node (h .object) nodes (end .head) (end .top) (h .count) → Parts j h ops by nodes (end .reach .0) (end .lost) node
 parts {j} {h} {ops} {by} {nodes} {end} l first =
-    subst (Parts j h ops by nodes (end .reach .0)) (sym first)
-    (subst (λ (x : Heading). Parts j x ops by nodes (end .reach .0) (first-node (x .object) nodes (end .head) (end .top) (x .count))) (sym (l .heading)) (parts-of-job j (subst (λ (x : Heading). Leaves j x ops by nodes end) (l .heading) l)))
+    subst (Parts j h ops by nodes (end .reach .0) (end .lost)) (sym first)
+    (subst (λ (x : Heading). Parts j x ops by nodes (end .reach .0) (end .lost) (first-node (x .object) nodes (end .head) (end .top) (x .count))) (sym (l .heading)) (parts-of-job j (subst (λ (x : Heading). Leaves j x ops by nodes end) (l .heading) l)))
 
 pub reported : {before after bytes : List ℕ} {told : ℕ} → Wrote before after 0 told bytes → Reported before after told bytes
 reported {bytes} w = record { writes = w .lays; tells = w .behind ∙ zero-add (length bytes) }

@@ -10,12 +10,14 @@ use Rattle.job.specs.Limits.{field}
 use Rattle.job.specs.Job.{Job, heading-of}
 use Rattle.machine.specs.declared.Finish.{Finish}
 use Rattle.machine.specs.Run.{state-after}
+use Rattle.machine.specs.Notes.{note}
 use Rattle.machine.specs.Idle.{IdleBehind}
+use Rattle.machine.specs.Lost as Lost
 use Rattle.access.specs.Nodes.{memory-of}
 use Rattle.journal.specs.Journal.{Holds}
 use Rattle.text.specs.Laid.{laid}
 
--- the journal of all steps, the shared memory after them, and a step behind which all are idle
+-- the journal of all steps, the shared memory after them, a step behind which all are idle, and the rounds lost
 pub record Leaves (j : Job) (h : Heading) (ops by nodes : List ℕ) (end : Finish) : Type 0 where
   pub heading : h ≡ heading-of j
   pub few : h .count ≤ field .operations
@@ -27,6 +29,7 @@ pub record Leaves (j : Job) (h : Heading) (ops by nodes : List ℕ) (end : Finis
   pub journal : Holds j (h .steps) ops by
   pub memory : memory-of (end .head) (end .tail) (end .top) nodes ≡ state-after j (h .steps) .memory
   pub behind : IdleBehind j (end .reach .0) (h .steps)
+  pub lost : end .lost ≡ Lost.lost (note j) (h .steps)
 
 -- a text was written at the front of a memory: the bytes past it are as before, and its length is told
 pub record Reported (before after : List ℕ) (told : ℕ) (bytes : List ℕ) : Type 0 where

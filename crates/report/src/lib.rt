@@ -12,6 +12,8 @@ use lines::object_line;
 use lines::operation_line;
 use machine::Finish;
 use rows::cell;
+use text::put_bytes;
+use text::put_labelled;
 ghost use mathlib.Core.Path.{_≡_};
 ghost use Prim.Native.Nat.{_+_, _≤_, _<_};
 ghost use lib.ListN.{length};
@@ -25,7 +27,7 @@ ghost use Rattle.job.specs.Stream.{stream-length};
 ghost use Rattle.job.specs.Job.{job-of};
 ghost use Rattle.journal.specs.Journal.{Agrees};
 ghost use Rattle.lines.specs.Members.{Bounds, climb, «first-node», UppersThere};
-ghost use Rattle.wording.specs.Report.{operation-lines, record-lines, report};
+ghost use Rattle.wording.specs.Report.{operation-lines, record-lines, lost-line, report};
 ghost use Rattle.report.specs.Found.{found, found-lines, Within};
 ghost use Rattle.report.specs.Reported.{Leaves, Reported};
 
@@ -152,6 +154,21 @@ fn first_node(object: Kind, nodes: &[u16], head: u16, top: u16, count: u16) -> u
     }
 }
 
+// The rounds that a queue lost; another object has no such line.
+fn lost_line(out: &mut [u8], at: usize, object: Kind, lost: u16) -> usize
+    requires { ⌜ at + length (lost-line object lost) ≤ length (now out) ⌝ }
+    ensures { λ r. ⌜ Wrote (now (out .entry)) (now (out .exit)) at r (lost-line object lost) ⌝ }
+{
+    match object {
+        Kind::Queue => {
+            let place = put_labelled(out, at, b"lost ", lost);
+            put_bytes(out, place, b"\n")
+        }
+        Kind::Stack => at,
+        Kind::TwoWay => at,
+    }
+}
+
 // The report of a finished run, at the front of a memory, and its length. Steps behind `end.reach` are idle and have no line.
 pub fn write_report(
     out: &mut [u8],
@@ -171,5 +188,6 @@ pub fn write_report(
     let place = object_line(out, 0, object);
     let place = operation_lines(out, place, stream, ops, h.count);
     let place = record_lines(out, place, ops, by, h.count, reach);
+    let place = lost_line(out, place, object, end.lost);
     left_line(out, place, object, nodes, node, h.count)
 }

@@ -15,7 +15,7 @@ use borrow.Author.Needs.{needs}
 use Rattle.replayer.proofs.replay_in.Statement.{statement}
 use Rattle.replayer.proofs.replay_in.Tie as tie
 
-left-by-run : {stream : List ℕ} {job : Heading} {end : Finish} {nodes ops by nodes′ ops′ by′ : List ℕ} → Runnable stream job → Room nodes ops by → SameLengths nodes ops by nodes′ ops′ by′ → Ran (job-of stream) (job .steps) (end .head) (end .tail) (end .top) nodes′ ops′ by′ → IdleBehind (job-of stream) (end .reach .0) (job .steps) → Leaves (job-of stream) job ops′ by′ nodes′ end
+left-by-run : {stream : List ℕ} {job : Heading} {end : Finish} {nodes ops by nodes′ ops′ by′ : List ℕ} → Runnable stream job → Room nodes ops by → SameLengths nodes ops by nodes′ ops′ by′ → Ran (job-of stream) (job .steps) (end .head) (end .tail) (end .top) (end .lost) nodes′ ops′ by′ → IdleBehind (job-of stream) (end .reach .0) (job .steps) → Leaves (job-of stream) job ops′ by′ nodes′ end
 left-by-run {nodes′ = nodes′} {ops′} {by′} r lent kept ran behind =
     let room : Room nodes′ ops′ by′ = room-kept kept lent in
     record {
@@ -28,6 +28,7 @@ left-by-run {nodes′ = nodes′} {ops′} {by′} r lent kept ran behind =
       journal = ran .journal;
       memory = ran .memory;
       behind = behind;
+      lost = ran .rounds;
     }
 
 run-all-requires : tie.Need-run-all-requires
