@@ -1,9 +1,11 @@
-//! Demand 3, checked on one run: the report's record explains what the steps did. The report is taken as text, so that either
-//! side's can be judged; the steps come from the second replayer's log, which is itself checked against a plain memory.
+//! Demand 3 and request 5, checked on one run: the report's record explains what the steps did, and its lost line counts their returns. The
+//! report is taken as text, so that either side's can be judged; the steps come from the second replayer's log, which is itself checked
+//! against a plain memory.
 
 pub mod explains;
 pub mod facts;
 pub mod listing;
+pub mod lost;
 pub mod order;
 pub mod parse;
 pub mod seen;
@@ -27,5 +29,6 @@ pub fn explained(job: &Job, log: &Log, facts: &Facts, report: &[u8]) -> Result<S
     let report = Report::of(report)?;
     explains::operations(job, facts, &report)?;
     explains::record(job, facts, &report)?;
+    lost::counted(job, facts, &report)?;
     Ok(Seen::of(job, log, facts, &report))
 }

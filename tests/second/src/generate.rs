@@ -1,5 +1,6 @@
 //! Random and adversarial jobs. A seed fixes a job: its style, sizes, operations and order of steps.
 
+pub mod collisions;
 pub mod drops;
 pub mod order;
 
@@ -65,9 +66,10 @@ pub enum Style {
     ManyDrops,
     PowerCuts,
     CutOff,
+    Collisions,
 }
 
-pub const STYLES: [Style; 21] = [
+pub const STYLES: [Style; 22] = [
     Style::Uniform,
     Style::Weighted,
     Style::Lockstep,
@@ -89,6 +91,7 @@ pub const STYLES: [Style; 21] = [
     Style::ManyDrops,
     Style::PowerCuts,
     Style::CutOff,
+    Style::Collisions,
 ];
 
 /// The style of a seed: seeds go round the styles.
@@ -100,6 +103,9 @@ pub fn style(seed: u64) -> Style {
 pub fn job(seed: u64) -> Draft {
     let mut random = Random::new(seed);
     let style = style(seed);
+    if style == Style::Collisions {
+        return collisions::job(&mut random);
+    }
     let kind = random.between(1, 3) as u8;
     let processes = random.between(1, PROCESSES) as u8;
     let operations = match style {

@@ -6,6 +6,7 @@ pub mod faults;
 pub mod jobs;
 pub mod lengths;
 pub mod limits;
+pub mod lost;
 pub mod outcomes;
 pub mod rooms;
 pub mod traces;

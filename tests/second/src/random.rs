@@ -39,6 +39,12 @@ impl Random {
         &from[self.below(from.len())]
     }
 
+    pub fn shuffle<T>(&mut self, these: &mut [T]) {
+        for last in (1..these.len()).rev() {
+            these.swap(last, self.between(0, last));
+        }
+    }
+
     pub fn bytes(&mut self, count: usize) -> Vec<u8> {
         (0..count).map(|_| self.byte()).collect()
     }

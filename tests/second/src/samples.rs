@@ -1,8 +1,9 @@
-//! Sample jobs: the traces of document 01, as document 02 has them, and jobs with drops, with their texts, written out by hand, the jobs that
-//! docs/ shows, and a full-size hour of a flood.
+//! Sample jobs: the traces of document 01, as document 02 has them, jobs with drops and jobs that lose rounds, with their texts, written out by
+//! hand, the jobs that docs/ shows, and a full-size hour of a flood.
 
 pub mod drops;
 pub mod flood;
+pub mod lost;
 
 use crate::generate::{Draft, put, take, turns};
 
@@ -31,6 +32,7 @@ pub fn listing() -> Trace {
          op 3 process 2 take first 6 last 12 item 1 value 50\n\
          at 3 put 1\n\
          at 11 take 1 by 2 3\n\
+         lost 0\n\
          left 0\n",
     )
 }
@@ -69,6 +71,7 @@ pub fn halves() -> Trace {
          at 3 put 1\n\
          at 7 put 2\n\
          at 11 put 3\n\
+         lost 0\n\
          left 3 1 2 3\n",
     )
 }
@@ -100,6 +103,7 @@ pub fn below_datum() -> Trace {
          at 27 put 7\n\
          at 32 take 1 by 8\n\
          at 36 take 2 by 9\n\
+         lost 0\n\
          left 5 3 4 5 6 7\n",
     )
 }
@@ -112,7 +116,7 @@ fn short_traces() -> Vec<Trace> {
             1,
             &[take(0)],
             &[0, 0, 0],
-            "object queue\nop 1 process 0 take first 1 last 3 empty\nat 1 empty by 1\nleft 0\n",
+            "object queue\nop 1 process 0 take first 1 last 3 empty\nat 1 empty by 1\nlost 0\nleft 0\n",
         ),
         trace(
             "one open put",
@@ -120,7 +124,7 @@ fn short_traces() -> Vec<Trace> {
             1,
             &[put(0, -32_768)],
             &[0, 0, 0],
-            "object queue\nop 1 process 0 put -3277 first 1 last - open\nat 3 put 1\nleft 1 1\n",
+            "object queue\nop 1 process 0 put -3277 first 1 last - open\nat 3 put 1\nlost 0\nleft 1 1\n",
         ),
         trace(
             "no steps",
@@ -132,6 +136,7 @@ fn short_traces() -> Vec<Trace> {
              op 1 process 0 put 50 first - last - waiting\n\
              op 2 process 1 take first - last - waiting\n\
              op 3 process 2 put 52 first - last - waiting\n\
+             lost 0\n\
              left 0\n",
         ),
     ]
@@ -176,6 +181,7 @@ fn stack_traces() -> Vec<Trace> {
 pub fn traces() -> Vec<Trace> {
     let mut traces = vec![listing(), fifth(), halves(), below_datum()];
     traces.extend([drops::put_dropped(), drops::take_dropped(), drops::nothing_dropped()]);
+    traces.extend([lost::puts_collide(), lost::take_helps(), lost::own_help()]);
     traces.extend(short_traces());
     traces.extend(stack_traces());
     traces

@@ -64,6 +64,10 @@ pub trait Object {
     fn begin(action: Action) -> Row;
     /// Runs the place's row as step `step`.
     fn act(&mut self, place: &mut Place, step: u16, journal: &mut Journal, watch: &mut impl Watch) -> Then;
+    /// The rounds lost, of an object that counts them.
+    fn lost(&self) -> Option<u16> {
+        None
+    }
     /// Calls `item` on each item left, front or top first.
     fn left(&self, item: impl FnMut(u16));
 }

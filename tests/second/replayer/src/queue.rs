@@ -9,13 +9,15 @@ pub struct Queue {
     head: u16,
     tail: u16,
     next: [u16; CELLS],
+    /// The returns to Q1 or T1 so far.
+    lost: u16,
 }
 
 impl Object for Queue {
     const NAME: &'static str = "queue";
 
     fn fresh() -> Queue {
-        Queue { head: 0, tail: 0, next: [NONE; CELLS] }
+        Queue { head: 0, tail: 0, next: [NONE; CELLS], lost: 0 }
     }
 
     fn begin(action: Action) -> Row {
@@ -42,7 +44,7 @@ impl Object for Queue {
                     journal.change[usize::from(own)] = step;
                     Row::Q4
                 } else {
-                    Row::Q1
+                    self.back_to(Row::Q1)
                 }
             }
             Row::Q4 => {
@@ -51,7 +53,7 @@ impl Object for Queue {
             }
             Row::Q5 => {
                 set(watch, Cell::Tail, &mut self.tail, t, n);
-                Row::Q1
+                self.back_to(Row::Q1)
             }
             Row::T1 => {
                 place.h = read(watch, Cell::Head, self.head);
@@ -72,7 +74,7 @@ impl Object for Queue {
             }
             Row::T4 => {
                 set(watch, Cell::Tail, &mut self.tail, t, n);
-                Row::T1
+                self.back_to(Row::T1)
             }
             Row::T5 => {
                 let changed = set(watch, Cell::Head, &mut self.head, h, n);
@@ -87,6 +89,10 @@ impl Object for Queue {
         })
     }
 
+    fn lost(&self) -> Option<u16> {
+        Some(self.lost)
+    }
+
     /// The nodes linked behind Head, in link order.
     fn left(&self, mut item: impl FnMut(u16)) {
         let mut node = self.next[usize::from(self.head)];
@@ -94,5 +100,13 @@ impl Object for Queue {
             item(node);
             node = self.next[usize::from(node)];
         }
+    }
+}
+
+impl Queue {
+    /// An operation goes back to its first row: a lost round.
+    fn back_to(&mut self, first: Row) -> Row {
+        self.lost += 1;
+        first
     }
 }

@@ -1,4 +1,4 @@
-//! The report of a run: a line for each operation, the record in step order, and what is left.
+//! The report of a run: a line for each operation, the record in step order, for a queue the rounds lost, and what is left.
 
 use crate::job::{self, Action, Job, Kind, OPERATIONS, Record};
 use crate::linked::Linked;
@@ -30,6 +30,7 @@ fn report<O: Object>(job: &Job, machine: &Machine<O>, memory: &mut [u8]) -> usiz
         operation(&mut text, number, job.records, &machine.journal);
     }
     record(&mut text, job.records, &machine.journal);
+    lost(&mut text, machine.object.lost());
     left(&mut text, &machine.object);
     text.length()
 }
@@ -171,6 +172,14 @@ fn print_line(text: &mut Text, step: u16, line: Line, takers: &Takers) {
         }
     }
     text.words("\n");
+}
+
+fn lost(text: &mut Text, rounds: Option<u16>) {
+    if let Some(rounds) = rounds {
+        text.words("lost ");
+        text.number(rounds);
+        text.words("\n");
+    }
 }
 
 fn left<O: Object>(text: &mut Text, object: &O) {

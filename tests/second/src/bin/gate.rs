@@ -1,10 +1,10 @@
 //! The gate run. Its last line is 'N passed, M failed', counted in test groups.
 
 use second::generate::STYLES;
-use second::groups::{self, Bench, bytes, every, faults, jobs, lengths, limits, outcomes, rooms, traces, values};
+use second::groups::{self, Bench, bytes, every, faults, jobs, lengths, limits, lost, outcomes, rooms, traces, values};
 use std::process::ExitCode;
 
-/// Jobs of each style, a third of them of each kind, and the first seed.
+/// Jobs of each style, a third of them of each kind (collisions are queues), and the first seed.
 const JOBS: usize = 3_750;
 const FIRST_SEED: u64 = 1;
 
@@ -21,6 +21,10 @@ fn main() -> ExitCode {
     }
     bench.group("every order of small jobs", every::schedules);
     bench.group("every order of small jobs, with drops", every::drops);
+    bench.group("lost rounds, full jobs at the bound", lost::full_jobs);
+    bench.group("lost rounds, two hundred puts", lost::two_hundred);
+    bench.group("lost rounds, mixed jobs at the bound", lost::mixed_jobs);
+    bench.group("lost lines that are wrong", lost::checks);
     bench.group("steps, every row both ways", jobs::reached);
     bench.group("faults alone", faults::alone);
     bench.group("sums and numbers, block by block", faults::block_by_block);

@@ -126,13 +126,15 @@ pub struct Facts {
     pub operations: Vec<Operation>,
     /// By item: the first T5 that moved Head to it, or the first W4 that cleared its flag.
     pub taken: [Option<u16>; CELLS],
+    /// The steps that the listing leads back to Q1 or T1.
+    pub lost: usize,
     pub memory: Memory,
 }
 
 impl Facts {
     pub fn of(job: &Job, log: &Log) -> Result<Facts, String> {
         let operations = vec![Operation::default(); job.records.len() + 1];
-        let mut facts = Facts { operations, taken: [None; CELLS], memory: Memory::fresh() };
+        let mut facts = Facts { operations, taken: [None; CELLS], lost: 0, memory: Memory::fresh() };
         let mut order = Order::of(job);
         let mut drops = log.drops.iter().peekable();
         for event in &log.events {
@@ -164,6 +166,7 @@ impl Facts {
         let row = own.at.unwrap_or(listing::first(job.kind, action));
         let right = own.dropped.is_none() && event.row == row && self.memory.take(event, own.read);
         let after = listing::after(event, own.read);
+        self.lost += usize::from(matches!(after, Ok(Row::Q1 | Row::T1)));
         own.at = after.ok();
         own.note(event);
         own.keep(event);

@@ -1,4 +1,4 @@
-//! A report taken apart, line by line, as document 01 lays it out.
+//! A report taken apart, line by line, as documents 01 and 02 lay it out.
 
 use std::str::SplitWhitespace;
 
@@ -39,6 +39,8 @@ pub struct Report {
     pub object: String,
     pub operations: Vec<Operation>,
     pub lines: Vec<Line>,
+    /// The count of the lost line, if there is one.
+    pub lost: Option<u16>,
     pub left: Vec<u16>,
 }
 
@@ -48,7 +50,7 @@ impl Report {
         let body = text.strip_suffix('\n').ok_or("the report does not end in a newline")?;
         let mut lines = body.split('\n');
         let object = lines.next().and_then(|line| line.strip_prefix("object ")).ok_or("no object line")?;
-        let mut report = Report { object: object.to_string(), operations: vec![], lines: vec![], left: vec![] };
+        let mut report = Report { object: object.to_string(), operations: vec![], lines: vec![], lost: None, left: vec![] };
         let mut ended = false;
         for line in lines {
             if ended {
@@ -59,12 +61,16 @@ impl Report {
         if ended { Ok(report) } else { Err("no left line".to_string()) }
     }
 
-    /// Adds one line; gives whether it is the last.
+    /// Adds one line; gives whether it is the last. Behind a lost line there is only the left line.
     fn add(&mut self, line: &str) -> Option<bool> {
         let mut words = line.split_whitespace();
         match words.next()? {
-            "op" if self.lines.is_empty() => self.operations.push(operation(&mut words)?),
-            "at" => self.lines.push(record_line(&mut words)?),
+            "op" if self.lines.is_empty() && self.lost.is_none() => self.operations.push(operation(&mut words)?),
+            "at" if self.lost.is_none() => self.lines.push(record_line(&mut words)?),
+            "lost" if self.lost.is_none() => {
+                self.lost = Some(lost_line(line)?);
+                return Some(false);
+            }
             "left" => {
                 let count: usize = words.next()?.parse().ok()?;
                 self.left = numbers(&mut words)?;
@@ -74,6 +80,12 @@ impl Report {
         }
         words.next().is_none().then_some(false)
     }
+}
+
+/// A count has but one lost line: no leading zero, no `+`, no more spaces.
+fn lost_line(line: &str) -> Option<u16> {
+    let count = line.strip_prefix("lost ")?.parse().ok()?;
+    (line == format!("lost {count}")).then_some(count)
 }
 
 fn number(words: &mut SplitWhitespace) -> Option<u16> {

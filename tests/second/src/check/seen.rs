@@ -1,6 +1,7 @@
 //! What a run showed, counted, so that a test can tell whether its jobs reached every row and every case of the record.
 
 use super::facts::Facts;
+use super::lost;
 use super::parse::{Effect, Report};
 use crate::job::{DROP, Job};
 use crate::watch::{CLEARED, Event, Log, ROWS, Row};
@@ -89,6 +90,19 @@ impl Seen {
         self.open_puts += other.open_puts;
         self.idle_steps += other.idle_steps;
         self.dropped.add(&other.dropped);
+    }
+
+    /// The rounds lost: Q3s that changed nothing, Q5s and T4s.
+    pub fn lost(&self) -> usize {
+        let [failed, _] = self.rows[Row::Q3 as usize];
+        let helped = [Row::Q5, Row::T4].iter().flat_map(|&row| self.rows[row as usize]);
+        failed + helped.sum::<usize>()
+    }
+
+    /// The most that document 02 lets one run on so many processes lose.
+    pub fn may_lose(&self, processes: u8) -> usize {
+        let [_, puts] = self.rows[Row::Q3 as usize];
+        lost::bound(processes, puts, self.dropped.before[Row::Q4 as usize])
     }
 
     /// Whether every row went both ways and every case of the record was met.

@@ -64,6 +64,7 @@ pub fn reached(bench: &mut Bench) -> Result<usize, String> {
     let Dropped { before, takers, puts, idle } = dropped;
     let drops = before.iter().sum::<usize>();
     println!("  dropped {drops}, of them takers {takers}, puts in the record {puts}; drops with none begun {idle}");
+    println!("  rounds lost {}", bench.seen.lost());
     if bench.seen.all() {
         Ok(rows.as_flattened().iter().sum::<usize>() + idle_steps + drops)
     } else {

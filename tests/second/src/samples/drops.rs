@@ -8,8 +8,8 @@ fn drop(process: u8) -> (u8, usize) {
     (DROP + process, 1)
 }
 
-/// Process 0 loses power between the Q3 that put its reading in and the Q4 that moves Tail. Put 2 finds Tail behind: Q5 helps. Process 0
-/// goes on with put 3, and the uplink takes the reading of put 1 all the same.
+/// Process 0 loses power between the Q3 that put its reading in and the Q4 that moves Tail. Put 2 finds Tail behind: Q5 helps, at step 7, and
+/// a round is lost. Process 0 goes on with put 3, and the uplink takes the reading of put 1 all the same.
 pub fn put_dropped() -> Trace {
     trace(
         "a put dropped before its Q4",
@@ -26,6 +26,7 @@ pub fn put_dropped() -> Trace {
          at 10 put 2\n\
          at 14 put 3\n\
          at 19 take 1 by 4\n\
+         lost 1\n\
          left 2 2 3\n",
     )
 }
