@@ -26,7 +26,7 @@ function tellLost() {
   section.hidden = run.lost === undefined;
   if (section.hidden) return;
   html("h2", "Lost rounds" + (run.lost ? " (" + count(run.lost) + ")" : ""), section);
-  html("p", run.lost ? "So often a put or a take had to begin again, since another was faster or was left half done. Each lost round costs radio battery."
+  html("p", run.lost ? "So often a put or a take had to begin again, since another was faster or was left half done. Each costs radio battery, but no reading."
     : "no put and no take had to begin again", section);
 }
 
