@@ -243,12 +243,7 @@ order 2 0           # take 3 finds Tail moved
 order 2 x 4 1 x 4
 ";
 
-#[test]
-fn lost_rounds_in_words() {
-    let room = Room::new("lost");
-    room.write("lost.txt", LOST);
-    room.bench("make lost.txt").is(0, "", "lost.job: queue, 3 processes, 3 operations, 22 steps\n");
-    let all = " step  process  operation  row  what
+const LOST_STEPS: &str = " step  process  operation  row  what
     1        0          1  Q1   reads Tail: node 0
     2        0          1  Q2   reads node 0's next: none
     3        1          2  Q1   reads Tail: node 0
@@ -272,8 +267,8 @@ fn lost_rounds_in_words() {
    21        1          2  Q3   sets node 1's next from none to node 2: changed; reading 2 is in
    22        1          2  Q4   sets Tail from node 1 to node 2: changed; ends, done
 ";
-    room.bench("steps lost.job").is(0, all, "");
-    let report = "object queue
+
+const LOST_REPORT: &str = "object queue
 op 1 process 0 put 50 first 1 last 14 done
 op 2 process 1 put 51 first 3 last 22 done
 op 3 process 2 take first 7 last 18 item 1 value 50
@@ -283,11 +278,18 @@ at 21 put 2
 lost 3
 left 1 2
 ";
-    room.bench("replay lost.job").is(0, report, "");
+
+#[test]
+fn lost_rounds_in_words() {
+    let room = Room::new("lost");
+    room.write("lost.txt", LOST);
+    room.bench("make lost.txt").is(0, "", "lost.job: queue, 3 processes, 3 operations, 22 steps\n");
+    room.bench("steps lost.job").is(0, LOST_STEPS, "");
+    room.bench("replay lost.job").is(0, LOST_REPORT, "");
     // a round has its number in the run, whatever is asked for
-    let title = &all[..all.find('\n').unwrap() + 1];
-    let third = all.lines().find(|line| line.ends_with("lost round 3")).unwrap();
-    room.bench("steps lost.job --op 3 --from 10 --to 13").is(0, &format!("{title}{third}\n"), "");
+    let title = LOST_STEPS.lines().next().unwrap();
+    let third = LOST_STEPS.lines().find(|line| line.ends_with("lost round 3")).unwrap();
+    room.bench("steps lost.job --op 3 --from 10 --to 13").is(0, &format!("{title}\n{third}\n"), "");
 }
 
 #[test]
