@@ -53,7 +53,8 @@ pub enum Command {
     },
     /// Show the run step by step, in words
     #[command(
-        after_help = "The steps are the second replayer's, and are shown only where its report is the proved one, byte for byte."
+        after_help = "The steps are the second replayer's, and are shown only where its report is the proved one, byte for byte.
+A lost round: a put or a take on a queue went back to Q1 or T1, its first row, to begin again. Each costs radio battery."
     )]
     Steps {
         /// A job file, or - for standard input
@@ -82,7 +83,8 @@ pub enum Command {
 #[derive(Args)]
 #[command(after_help = "With --out, standard output has one line a file: 'replayed', 'refused' and the number, or 'failed',
 a tab, the file's name; on a terminal only the files that were not replayed. Links to folders are not followed.
-docs/ARCHIVE.md: an archive that is larger than one machine.")]
+docs/ARCHIVE.md: an archive that is larger than one machine.
+A queue's report counts its lost rounds in the line 'lost': how often a put or a take had to begin again. Each costs radio battery.")]
 pub struct ReplayArguments {
     /// Job files; folders, for the files in them and below whose names end in .job; - for standard input
     #[arg(value_name = "FILE", required_unless_present = "files_from")]

@@ -2,6 +2,7 @@
 
 mod access;
 mod drops;
+mod lost;
 
 use crate::status::{Failure, Status, say};
 use crate::words::counted;
@@ -53,12 +54,12 @@ pub fn second(file: &[u8]) -> Option<(Log, Vec<u8>)> {
     Some((log, memory))
 }
 
-/// The log, if the second replayer's report is the proved one, byte for byte.
+/// The log, if the second replayer's report is the proved one, byte for byte, and its steps lose as many rounds as that says.
 pub fn agreed(second: Option<(Log, Vec<u8>)>, proved: &str) -> Result<Log, Failure> {
     match second {
-        Some((log, report)) if report == proved.as_bytes() => Ok(log),
+        Some((log, report)) if report == proved.as_bytes() && lost::agrees(&log, proved) => Ok(log),
         _ => Err(Failure(
-            "The second replayer does not come to the proved report, so its steps are not shown. Please keep the file and tell the makers of the bench."
+            "The second replayer's steps do not come to the proved report, so they are not shown. Please keep the file and tell the makers of the bench."
                 .to_string(),
         )),
     }
@@ -69,9 +70,13 @@ pub fn told(job: &Job, log: &Log, op: Option<u16>, range: &RangeInclusive<u16>) 
     let mut text = row("step", "process", "operation", "row", "what");
     let mut events = log.events.iter().peekable();
     let mut drops = log.drops.iter().peekable();
+    let mut rounds = 0;
     for (&entry, step) in job.schedule.iter().zip(1u16..) {
         let came = match (events.next_if(|event| event.step == step), drops.next_if(|drop| drop.step == step)) {
-            (Some(event), _) => Came::Act(event),
+            (Some(event), _) => {
+                rounds += u16::from(lost::back_to(event).is_some());
+                Came::Act(event, rounds)
+            }
             (None, Some(drop)) => Came::Drop(drop),
             (None, None) => Came::Nothing,
         };
@@ -85,7 +90,8 @@ pub fn told(job: &Job, log: &Log, op: Option<u16>, range: &RangeInclusive<u16>) 
 
 /// What came of a step.
 enum Came<'a> {
-    Act(&'a Event),
+    /// The step, and the rounds lost by then, its own among them.
+    Act(&'a Event, u16),
     Drop(&'a watch::Drop),
     /// It was idle.
     Nothing,
@@ -94,7 +100,7 @@ enum Came<'a> {
 impl Came<'_> {
     fn operation(&self) -> Option<u16> {
         match self {
-            Came::Act(event) => Some(event.operation),
+            Came::Act(event, _) => Some(event.operation),
             Came::Drop(drop) => Some(drop.operation),
             Came::Nothing => None,
         }
@@ -112,15 +118,17 @@ fn line(job: &Job, log: &Log, step: u16, turn: Turn, came: &Came) -> String {
     let (step, process) = (step.to_string(), turn.process().to_string());
     let operation = came.operation().map_or("-".to_string(), |operation| operation.to_string());
     match (came, turn) {
-        (Came::Act(event), _) => row(&step, &process, &operation, &format!("{:?}", event.row), &what(job.kind, event)),
+        (Came::Act(event, rounds), _) => {
+            row(&step, &process, &operation, &format!("{:?}", event.row), &what(job.kind, event, *rounds))
+        }
         (Came::Drop(drop), _) => row(&step, &process, &operation, DROP, &drops::told(job, log, drop)),
         (Came::Nothing, Turn::Drops(_)) => row(&step, &process, &operation, DROP, "idle: no begun operation to drop"),
         (Came::Nothing, Turn::Acts(_)) => row(&step, &process, &operation, "-", "idle: no operation remains"),
     }
 }
 
-/// What a step read or changed, and what came of it.
-fn what(kind: Kind, event: &Event) -> String {
+/// What a step read or changed, and what came of it; of one that goes back, which of the run's lost rounds it is.
+fn what(kind: Kind, event: &Event, rounds: u16) -> String {
     let mut text = access::told(kind, event);
     match (event.row, event.cell, event.wrote) {
         (Row::Q3 | Row::P3 | Row::V4, _, Some(own)) => text += &format!("; reading {own} is in"),
@@ -134,6 +142,9 @@ fn what(kind: Kind, event: &Event) -> String {
         Some(Answer::Item(item)) => text += &format!("; ends with reading {item}"),
         Some(Answer::Empty) => text += "; ends, empty",
         None => {}
+    }
+    if let Some(first) = lost::back_to(event) {
+        text += &format!("; back to {first:?}, lost round {rounds}");
     }
     text
 }
@@ -150,6 +161,10 @@ mod tests {
         let other = proved.as_str().replace("value 50", "value 51");
         assert!(agreed(second(file), &other).is_err());
         assert!(agreed(None, proved.as_str()).is_err());
+        // the two reports are the same, and the steps lose no round
+        let other = proved.as_str().replace("lost 0", "lost 1");
+        let (log, _) = second(file).unwrap();
+        assert!(agreed(Some((log, other.clone().into_bytes())), &other).is_err());
     }
 
     #[test]

@@ -31,17 +31,18 @@ fn with_class(dom: &str, class: &str, attribute: &str) -> Vec<String> {
     values
 }
 
-/// What a report says of bars, of those that were dropped, of effects, ties and items left.
+/// What a report says of bars, of those that were dropped, of effects, ties, rounds lost and items left.
 struct Told {
     bars: Vec<String>,
     cuts: Vec<String>,
     effects: Vec<(String, String)>,
     ties: Vec<String>,
+    lost: Option<String>,
     left: Vec<String>,
 }
 
 fn told(report: &str) -> Told {
-    let mut told = Told { bars: vec![], cuts: vec![], effects: vec![], ties: vec![], left: vec![] };
+    let mut told = Told { bars: vec![], cuts: vec![], effects: vec![], ties: vec![], lost: None, left: vec![] };
     for line in report.lines() {
         let words: Vec<String> = line.split(' ').map(String::from).collect();
         match words[0].as_str() {
@@ -56,11 +57,23 @@ fn told(report: &str) -> Told {
                     told.ties.push(words[3].clone());
                 }
             }
+            "lost" => told.lost = Some(words[1].clone()),
             "left" => told.left = words[2..].to_vec(),
             _ => {}
         }
     }
     told
+}
+
+/// The rounds that the page says were lost, in its head and in their section; none where it says nothing of them.
+fn rounds(dom: &str) -> [Option<String>; 2] {
+    let part = |from: &str, to: &str| Some(dom.split_once(from)?.1.split_once(to)?.0);
+    let digits = |words: &str| words.chars().filter(char::is_ascii_digit).collect::<String>();
+    let head = part(" id=\"numbers\">", "</p>").unwrap().split(" · ").find(|words| words.contains(" lost"));
+    let section = part("<section id=\"lost\"", "</section>").filter(|section| !section.starts_with(" hidden"));
+    let none = |section: &str| section.contains("<h2>Lost rounds</h2><p>no put and no take had to begin again</p>");
+    let many = |section: &str| if none(section) { "0".to_string() } else { digits(part("<h2>Lost rounds (", ")</h2>").unwrap()) };
+    [head.map(digits), section.map(many)]
 }
 
 /// Draws a job and holds the page against the report; gives the page.
@@ -83,6 +96,7 @@ fn held(room: &Room, name: &str, file: &[u8]) -> String {
     );
     assert_eq!(effects, expected, "{name}");
     assert_eq!(with_class(&dom, "tie", "data-item"), told.ties, "{name}");
+    assert_eq!(rounds(&dom), [told.lost.clone(), told.lost], "{name}");
     assert_eq!(with_class(&dom, "left", "data-item"), told.left, "{name}");
     dom
 }
@@ -97,6 +111,12 @@ fn every_sample_is_drawn_as_its_report_has_it() {
         assert!(name != "smallest" || dom.contains("queue · 1 operation by 1 process · "));
         assert!(name != "drop-take" || (dom.contains(" left at the end · 1 dropped<") && dom.contains(">Dropped: 3 at step 9<")));
         assert!(name != "open-take" || !dom.contains(" dropped<"));
+        assert!(name != "listing" || dom.contains(" · 0 rounds lost · 0 left at the end<"));
+        assert!(
+            name != "open-put"
+                || (dom.contains(" · 1 round lost · 0 left at the end<")
+                    && dom.contains(" Each costs radio battery, but no reading.</p>"))
+        );
         assert!(name != "linked-help" || (dom.contains("linked stack · 4 operations by ") && dom.contains("(2, top first)")));
     }
 }

@@ -37,6 +37,9 @@ fn help_and_wrong_use() {
         assert!(every.contains(&format!("\n  {command} ")), "{command}");
     }
     assert!(every.contains("Exit status: 0 all is well; 1 a job was refused; 2 wrong use, a wrong text"));
+    for words in ["help replay", "help steps"] {
+        assert!(room.bench(words).out.contains(" to begin again. Each costs radio battery."), "{words}");
+    }
     for words in [
         "",
         "nosuch",

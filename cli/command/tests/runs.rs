@@ -3,9 +3,11 @@
 mod shared;
 
 use bench_command::{input, reading, steps};
+use pigwazet::Kind;
 use pigwazet::report::Ending::Dropped;
 use second::check::parse::{Effect, Ending, Report};
 use shared::{Room, generated, samples, top, with_drops};
+use std::collections::HashMap;
 use std::fs;
 
 /// A sample, a reading, and its fate.
@@ -229,6 +231,97 @@ fn steps_of_a_stack_in_words() {
     room.bench("steps smallest.job --from 2 --to 2").tells(0, "\n    2        0          -  -    idle: no operation remains\n");
 }
 
+/// A put that is too late at its Q3 and then helps the faster one, which stands before its Q4; a take that wants to help it too and finds that done.
+const LOST: &str = "queue
+processes 3
+put 0 500
+put 1 510
+take 2
+order 0 0 1 1 0 1   # put 2 too late
+order 2 2 2 1 1 1   # it helps put 1
+order 2 0           # take 3 finds Tail moved
+order 2 x 4 1 x 4
+";
+
+const LOST_STEPS: &str = " step  process  operation  row  what
+    1        0          1  Q1   reads Tail: node 0
+    2        0          1  Q2   reads node 0's next: none
+    3        1          2  Q1   reads Tail: node 0
+    4        1          2  Q2   reads node 0's next: none
+    5        0          1  Q3   sets node 0's next from none to node 1: changed; reading 1 is in
+    6        1          2  Q3   sets node 0's next from none to node 2: not changed, it holds node 1; back to Q1, lost round 1
+    7        2          3  T1   reads Head: node 0
+    8        2          3  T2   reads Tail: node 0
+    9        2          3  T3   reads node 0's next: node 1
+   10        1          2  Q1   reads Tail: node 0
+   11        1          2  Q2   reads node 0's next: node 1
+   12        1          2  Q5   sets Tail from node 0 to node 1: changed; back to Q1, lost round 2
+   13        2          3  T4   sets Tail from node 0 to node 1: not changed, it holds node 1; back to T1, lost round 3
+   14        0          1  Q4   sets Tail from node 0 to node 1: not changed, it holds node 1; ends, done
+   15        2          3  T1   reads Head: node 0
+   16        2          3  T2   reads Tail: node 1
+   17        2          3  T3   reads node 0's next: node 1
+   18        2          3  T5   sets Head from node 0 to node 1: changed; reading 1 is out; ends with reading 1
+   19        1          2  Q1   reads Tail: node 1
+   20        1          2  Q2   reads node 1's next: none
+   21        1          2  Q3   sets node 1's next from none to node 2: changed; reading 2 is in
+   22        1          2  Q4   sets Tail from node 1 to node 2: changed; ends, done
+";
+
+const LOST_REPORT: &str = "object queue
+op 1 process 0 put 50 first 1 last 14 done
+op 2 process 1 put 51 first 3 last 22 done
+op 3 process 2 take first 7 last 18 item 1 value 50
+at 5 put 1
+at 18 take 1 by 3
+at 21 put 2
+lost 3
+left 1 2
+";
+
+#[test]
+fn lost_rounds_in_words() {
+    let room = Room::new("lost");
+    room.write("lost.txt", LOST);
+    room.bench("make lost.txt").is(0, "", "lost.job: queue, 3 processes, 3 operations, 22 steps\n");
+    room.bench("steps lost.job").is(0, LOST_STEPS, "");
+    room.bench("replay lost.job").is(0, LOST_REPORT, "");
+    // a round has its number in the run, whatever is asked for
+    let title = LOST_STEPS.lines().next().unwrap();
+    let third = LOST_STEPS.lines().find(|line| line.ends_with("lost round 3")).unwrap();
+    room.bench("steps lost.job --op 3 --from 10 --to 13").is(0, &format!("{title}\n{third}\n"), "");
+}
+
+#[test]
+fn a_process_loses_a_round_by_its_own_drop() {
+    let room = Room::new("own-drop");
+    room.write("own.txt", "queue\nprocesses 1\nput 0 500\nput 0 510\norder 0 x 3 drop 0 0 x 7\n");
+    room.bench("make own.txt").is(0, "", "own.job: queue, 1 process, 2 operations, 11 steps with 1 drop\n");
+    let all = " step  process  operation  row  what
+    1        0          1  Q1   reads Tail: node 0
+    2        0          1  Q2   reads node 0's next: none
+    3        0          1  Q3   sets node 0's next from none to node 1: changed; reading 1 is in
+    4        0          1  x    drops operation 1, behind Q3: reading 1 is in all the same
+    5        0          2  Q1   reads Tail: node 0
+    6        0          2  Q2   reads node 0's next: node 1
+    7        0          2  Q5   sets Tail from node 0 to node 1: changed; back to Q1, lost round 1
+    8        0          2  Q1   reads Tail: node 1
+    9        0          2  Q2   reads node 1's next: none
+   10        0          2  Q3   sets node 1's next from none to node 2: changed; reading 2 is in
+   11        0          2  Q4   sets Tail from node 1 to node 2: changed; ends, done
+";
+    room.bench("steps own.job").is(0, all, "");
+    let report = "object queue
+op 1 process 0 put 50 first 1 last - dropped
+op 2 process 0 put 51 first 5 last 11 done
+at 3 put 1
+at 10 put 2
+lost 1
+left 2 1 2
+";
+    room.bench("replay own.job").is(0, report, "");
+}
+
 /// Puts and takes that come in each other's way at every row where they can.
 const CROWDED: &str = "linked
 processes 3
@@ -252,6 +345,8 @@ fn steps_of_a_linked_stack_in_words() {
     room.write("crowded.txt", CROWDED);
     room.bench("make crowded.txt").is(0, "", "crowded.job: linked stack, 3 processes, 7 operations, 63 steps\n");
     let out = room.bench("steps crowded.job").out;
+    // rounds are counted on queues alone
+    assert!(!out.contains("lost round"), "{out}");
     for line in "    7        0          1  V4   sets node 0's upper from none to node 1: changed; reading 1 is in
     8        1          2  V4   sets node 0's upper from none to node 2: not changed, it holds node 1
     9        1          2  V1   reads Top: node 0
@@ -304,6 +399,7 @@ fn drops_in_words() {
     6        0          2  Q1   reads Tail: node 0
     7        0          2  x    drops operation 2, behind Q1: reading 2 does not come in
    10        1          3  x    drops operation 3, behind T2: nothing was taken
+   14        1          4  T4   sets Tail from node 0 to node 1: changed; back to T1, lost round 1
    18        1          4  T5   sets Head from node 0 to node 1: changed; reading 1 is out; ends with reading 1
    19        1          -  x    idle: no begun operation to drop
    20        1          -  -    idle: no operation remains"
@@ -424,4 +520,42 @@ fn the_two_replayers_agree_and_every_step_has_a_line() {
         dropped += seen.len();
     }
     assert!(dropped > 1_000, "{dropped}");
+}
+
+/// Holds the steps of a run that lose a round against the rows: the next step of the operation is then at Q1 or T1, and else it is not. Of the last step of
+/// an operation, or the last before its drop, only the report's count tells.
+fn held_to_rows(text: &str) {
+    let mut last: HashMap<&str, &str> = HashMap::new();
+    for line in text.lines().skip(1) {
+        let words: Vec<&str> = line.split_whitespace().collect();
+        let (operation, row) = (words[2], words[3]);
+        if operation == "-" {
+            continue;
+        }
+        if let Some(before) = last.insert(operation, line).filter(|_| row != "x") {
+            assert_eq!(before.contains("; back to "), row == "Q1" || row == "T1", "{before}\n{line}");
+            assert!(
+                !before.contains("; back to ") || before.contains(&format!("; back to {row}, lost round ")),
+                "{before}\n{line}"
+            );
+        }
+    }
+}
+
+#[test]
+fn lost_rounds_of_generated_jobs_are_those_of_their_reports_and_of_their_rows() {
+    let (mut queues, mut lost) = (0, 0);
+    for file in (0..800).flat_map(|seed| [generated(seed).1, with_drops(seed).1]) {
+        let (job, proved) = input::replayed(&file).unwrap();
+        let log = steps::agreed(steps::second(&file), proved.as_str()).unwrap();
+        let text = steps::told(&job, &log, None, &(1..=job.schedule.len() as u16));
+        let rounds: Vec<u16> = text.lines().filter_map(|line| line.split_once(", lost round ")?.1.parse().ok()).collect();
+        let run = proved.run();
+        assert_eq!((job.kind == Kind::Queue, run.lost.unwrap_or_default()), (run.lost.is_some(), rounds.len() as u16));
+        assert!(rounds.iter().copied().eq(1..=rounds.len() as u16), "{rounds:?}");
+        held_to_rows(&text);
+        queues += usize::from(job.kind == Kind::Queue);
+        lost += rounds.len();
+    }
+    assert!(queues > 400 && lost > 4_000, "{queues} {lost}");
 }

@@ -61,6 +61,9 @@ pub use report::Report;
 /// let run = report.run();
 /// assert_eq!(run.takers(1), [2, 3]);
 /// assert!(run.left.is_empty());
+///
+/// // nobody had to begin again
+/// assert_eq!(run.lost, Some(0));
 /// # Ok::<(), pigwazet::Refusal>(())
 /// ```
 pub fn replay(file: &[u8]) -> Result<Report, Refusal> {

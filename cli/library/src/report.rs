@@ -102,6 +102,10 @@ pub struct Run<'a> {
     pub operations: Vec<Operation<'a>>,
     /// In the order of steps.
     pub record: Vec<Line<'a>>,
+    /// The rounds that a queue lost: how often a put or a take went back to its first row, Q1 or T1. Of the other kinds none are counted.
+    pub lost: Option<u16>,
+    /// That line as the report has it.
+    pub lost_line: Option<&'a str>,
     /// Items, front or top first.
     pub left: Vec<u16>,
     /// The last line as the report has it.

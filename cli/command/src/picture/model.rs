@@ -12,7 +12,7 @@ pub fn json(name: &str, job: &Job, run: &Run) -> String {
         let lines = reading::fate(job, run, item)?.iter().map(|line| string(line)).collect();
         Some((item.to_string(), array(lines)))
     });
-    object([
+    let mut fields = vec![
         ("name", string(name)),
         ("object", string(run.kind.noun())),
         ("end", string(reading::end(run.kind))),
@@ -20,10 +20,11 @@ pub fn json(name: &str, job: &Job, run: &Run) -> String {
         ("steps", steps.to_string()),
         ("operations", array(run.operations.iter().map(|own| operation(job, own)).collect())),
         ("record", array(run.record.iter().map(line).collect())),
-        ("left", numbers(&run.left)),
-        ("leftLine", string(run.left_line)),
-        ("fates", object(fates)),
-    ])
+    ];
+    fields.extend(run.lost.map(|lost| ("lost", lost.to_string())));
+    fields.extend(run.lost_line.map(|line| ("lostLine", string(line))));
+    fields.extend([("left", numbers(&run.left)), ("leftLine", string(run.left_line)), ("fates", object(fates))]);
+    object(fields)
 }
 
 fn operation(job: &Job, operation: &Operation) -> String {
@@ -108,14 +109,14 @@ mod tests {
     #[test]
     fn a_small_run_as_json() {
         let run = Run::of(
-            "object queue\nop 1 process 1 put -2 first 1 last - open\nop 2 process 0 take first - last - waiting\nleft 0\n",
+            "object queue\nop 1 process 1 put -2 first 1 last - open\nop 2 process 0 take first - last - waiting\nlost 0\nleft 0\n",
         );
         let json = json("a.job", &job(&[1]), &run.unwrap());
         let expected = concat!(
             r#"{"name":"a.job","object":"queue","end":"front","processes":2,"steps":1,"operations":["#,
             r#"{"number":1,"process":1,"action":"put","value":-2,"first":1,"ending":"open","line":"op 1 process 1 put -2 first 1 last - open"},"#,
             r#"{"number":2,"process":0,"action":"take","ending":"waiting","line":"op 2 process 0 take first - last - waiting"}],"#,
-            r#""record":[],"left":[],"leftLine":"left 0","fates":{"1":["#,
+            r#""record":[],"lost":0,"lostLine":"lost 0","left":[],"leftLine":"left 0","fates":{"1":["#,
             r#""Reading 1: -2 cm, put by operation 1 of process 1 (open since step 1).","It is not in the record: it never came into the queue."]}}"#
         );
         assert_eq!(json, expected);
@@ -123,7 +124,7 @@ mod tests {
 
     #[test]
     fn a_dropped_operation_has_the_step_of_its_drop() {
-        let report = "object queue\nop 1 process 0 put 50 first 3 last - dropped\nat 5 put 1\nleft 1 1\n";
+        let report = "object queue\nop 1 process 0 put 50 first 3 last - dropped\nat 5 put 1\nlost 0\nleft 1 1\n";
         // a drop with nothing begun, one by another process, one that counts, one with nothing begun again
         let json = json("a.job", &job(&[128, 129, 0, 0, 0, 129, 128, 128]), &Run::of(report).unwrap());
         let operation =
@@ -136,6 +137,16 @@ mod tests {
     }
 
     #[test]
+    fn a_queue_has_its_lost_rounds() {
+        // Q1 Q2 Q3 by the put, which is then open; T1 T2 T3 T4 by the take, and again T1 T2 T3 T5
+        let report = "object queue\nop 1 process 0 put 120 first 1 last - open\nop 2 process 1 take first 4 last 11 item 1 value 120\n\
+                      at 3 put 1\nat 11 take 1 by 2\nlost 1\nleft 0\n";
+        let json = json("a.job", &job(&[0, 0, 0, 1, 1, 1, 1, 1, 1, 1, 1]), &Run::of(report).unwrap());
+        let lost = r#""line":"at 11 take 1 by 2"}],"lost":1,"lostLine":"lost 1","left":[],"leftLine":"left 0","#;
+        assert!(json.contains(lost), "{json}");
+    }
+
+    #[test]
     fn a_linked_stack_is_listed_from_the_top() {
         let report = "object linked\nop 1 process 0 put 50 first 1 last - open\nat 4 put 1\nleft 1 1\n";
         let json = json("a.job", &job(&[0; 4]), &Run::of(report).unwrap());
@@ -145,6 +156,6 @@ mod tests {
             r#""The record has it coming into the linked stack at step 4.","#,
             r#""Nobody took it. It is still in the linked stack: place 1 of 1 from the top."]}}"#
         );
-        assert!(json.starts_with(begins) && json.ends_with(ends), "{json}");
+        assert!(json.starts_with(begins) && json.ends_with(ends) && !json.contains("lost"), "{json}");
     }
 }

@@ -7,20 +7,22 @@ impl<'a> Run<'a> {
     /// Takes a text apart; none if it is no report.
     pub fn of(text: &'a str) -> Option<Run<'a>> {
         let body = text.strip_suffix('\n')?;
-        let mut lines = body.split('\n');
+        let mut lines = body.split('\n').peekable();
         let kind = Kind::named(lines.next()?.strip_prefix("object ")?)?;
-        let mut run = Run { kind, operations: vec![], record: vec![], left: vec![], left_line: "" };
-        for line in lines.by_ref() {
-            match line.split_once(' ')?.0 {
-                "op" => run.operations.push(Operation::of(line)?),
-                "at" => run.record.push(Line::of(line)?),
-                _ => {
-                    (run.left, run.left_line) = (left(line)?, line);
-                    break;
-                }
-            }
+        let mut run = Run { kind, operations: vec![], record: vec![], lost: None, lost_line: None, left: vec![], left_line: "" };
+        while let Some(line) = lines.next_if(|line| line.starts_with("op ")) {
+            run.operations.push(Operation::of(line)?);
         }
-        (lines.next().is_none() && !run.left_line.is_empty()).then_some(run)
+        while let Some(line) = lines.next_if(|line| line.starts_with("at ")) {
+            run.record.push(Line::of(line)?);
+        }
+        if kind == Kind::Queue {
+            let line = lines.next()?;
+            (run.lost, run.lost_line) = (Some(lost(line)?), Some(line));
+        }
+        run.left_line = lines.next()?;
+        run.left = left(run.left_line)?;
+        lines.next().is_none().then_some(run)
     }
 }
 
@@ -126,6 +128,14 @@ impl<'a> Line<'a> {
         };
         Some(Line { at, effect, line })
     }
+}
+
+fn lost(line: &str) -> Option<u16> {
+    let mut words = Words::of(line);
+    words.is("lost")?;
+    let count = words.number()?;
+    words.ended()?;
+    Some(count)
 }
 
 fn left(line: &str) -> Option<Vec<u16>> {

@@ -2,6 +2,7 @@
 
 byId("main").hidden = false;
 tellNumbers();
+tellLost();
 tellLists();
 tellNothing();
 makeShapes();

@@ -6,6 +6,7 @@ function tellNumbers() {
   line.append(run.object + " · " + several(run.operations.length, "operation", "operations") + " by "
     + several(new Set(run.operations.map((op) => op.process)).size, "process", "processes") + " · " + (run.steps ? "up to step " + count(run.steps) : "no steps") + " · ");
   html("b", several(doubles, "double", "doubles"), line, doubles ? "many" : "");
+  if (run.lost !== undefined) line.append(" · " + several(run.lost, "round", "rounds") + " lost");
   line.append(" · " + count(run.left.length) + " left at the end");
   const dropped = run.operations.filter(isDropped).length;
   if (dropped) line.append(" · " + count(dropped) + " dropped");
@@ -17,6 +18,16 @@ function chip(item, more, kind, parent) {
   node.dataset.item = item;
   html("b", item, node);
   node.append(cm(valueOf(item)) + more);
+}
+
+// Rounds that a queue lost: of the other objects none are counted.
+function tellLost() {
+  const section = byId("lost");
+  section.hidden = run.lost === undefined;
+  if (section.hidden) return;
+  html("h2", "Lost rounds" + (run.lost ? " (" + count(run.lost) + ")" : ""), section);
+  html("p", run.lost ? "So often a put or a take had to begin again, since another was faster or was left half done. Each costs radio battery, but no reading."
+    : "no put and no take had to begin again", section);
 }
 
 function tellLists() {
