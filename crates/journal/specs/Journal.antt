@@ -13,6 +13,7 @@ use Rattle.machine.specs.Journal as the
 use Rattle.machine.specs.Drops.{drop}
 use Rattle.machine.specs.Effects.{takes-at}
 use Rattle.machine.specs.Explained.{IsOperation}
+use Rattle.machine.specs.Lost.{lost}
 
 -- its last step, or the mark of one that was dropped
 abbrev pub ending : Job → ℕ → ℕ → ℕ
@@ -36,3 +37,5 @@ pub record Holds (j : Job) (k : ℕ) (ops by : List ℕ) : Type 0 where
   pub agrees : Agrees j k (cells ops)
   pub by-at : (s : ℕ) → 1 ≤ s → s ≤ k → at by s ≡ note j s .by
   pub by-later : (s : ℕ) → k < s → at by s ≡ 0
+  -- row 0 is no operation's: its first cell has how many rounds are lost
+  pub rounds : cells ops First 0 ≡ lost (note j) k

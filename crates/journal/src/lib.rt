@@ -1,13 +1,14 @@
 // The journal of a run: what each operation did, kept in its row by a store or two a step. Cells hold step numbers or items.
 ghost use mathlib.Core.Path.{_≡_};
 ghost use Prim.Native.Nat.{_<_, max};
+ghost use mathlib.Core.Bool.{true};
 ghost use lib.ListN.{length};
 ghost use Rattle.basics.specs.Choice.{same};
 ghost use Rattle.basics.specs.Maps.{at, upd};
 ghost use Rattle.rows.specs.Rows.{place, column};
 ghost use Rattle.rows.specs.Operations.{op-width, HasOps, cells, stored, dropped-mark};
 ghost use Rattle.rows.specs.Operations.Column.{First, Last, Taken, Stands};
-ghost use Rattle.journal.specs.Stored.{earlier, entered, noted, closed, HasCells};
+ghost use Rattle.journal.specs.Stored.{earlier, entered, noted, counted, closed, Countable, HasCells};
 use job::Operation;
 use job::Step;
 use machine::Event;
@@ -78,6 +79,23 @@ pub fn note(event: Event, o: Operation, k: Step, ops: &mut [u16])
             note_raise(t, o, round, ops)
         }
     }
+}
+
+// One more round is lost.
+pub fn count_lost(ops: &mut [u16])
+    requires { ⌜ Countable (now ops) ⌝ }
+    ensures { λ _. ⌜ cells (now (ops .exit)) ≡ counted true (cells (now (ops .entry))) ⌝ }
+{
+    let lost = cell(ops, rows::OPS, 0, rows::FIRST);
+    store(ops, rows::OPS, 0, rows::FIRST, lost + 1);
+}
+
+// How many rounds are lost?
+pub fn lost_rounds(ops: &[u16]) -> u16
+    requires { ⌜ HasOps 0 (now ops) ⌝ }
+    ensures { λ r. ⌜ r ≡ cells (now (ops .entry)) First 0 ⌝ }
+{
+    cell(ops, rows::OPS, 0, rows::FIRST)
 }
 
 // Enters step k, made by operation o.

@@ -24,7 +24,7 @@ use Rattle.theory.proofs.Operations.Drops.{begun-first}
 use Rattle.journal.specs.Journal.{Agrees, Holds}
 use Rattle.journal.proofs.Whole.{holds-drops}
 use Rattle.run.specs.Promise.{InPlace, Ran}
-use Rattle.run.proofs.Turned.{none-lost, places-set}
+use Rattle.run.proofs.Turned.{places-set}
 
 -- rows that say the same hold the same journal
 pub holds-same : {j : Job} {k : ℕ} {ops ops′ by : List ℕ} → cells ops′ ≡ cells ops → Holds j k ops by → Holds j k ops′ by
@@ -35,7 +35,7 @@ module _ (j : Job) (k : ℕ) (p : Process) (named : j .slot (suc k) ≡ Drops p)
   abbrev held : ℕ
   held = its-place j k p .operation .0
 
-  module _ {head tail top lost : ℕ} {nodes ops by : List ℕ} (to-count : held ≤ j .count) (r : Ran j k head tail top lost nodes ops by) where
+  module _ {head tail top : ℕ} {nodes ops by : List ℕ} (to-count : held ≤ j .count) (r : Ran j k head tail top nodes ops by) where
     -- an operation has begun exactly if its row has a first step
     begun-is : {waits : Bool} → same (cells ops First held) 0 ≡ waits → state-after j k .begun held ≡ not waits
     begun-is e =
@@ -50,13 +50,12 @@ module _ (j : Job) (k : ℕ) (p : Process) (named : j .slot (suc k) ≡ Drops p)
 
     -- one that has begun is dropped
     module _ (begun : same (cells ops First held) 0 ≡ false) where
-      pub ran-drops : {lost′ : ℕ} {ops′ : List ℕ} → lost′ ≡ lost → cells ops′ ≡ stored Last held dropped-mark (cells ops) → Ran j (suc k) head tail top lost′ nodes ops′ by
+      pub ran-drops : {ops′ : List ℕ} → cells ops′ ≡ stored Last held dropped-mark (cells ops) → Ran j (suc k) head tail top nodes ops′ by
       unfolding memory
-      ran-drops none e =
+      ran-drops e =
           let state-is = state-drops j k p named (begun-is begun) in
           record {
             memory = r .memory ∙ ap (λ (s : State). s .memory) (sym state-is);
-            rounds = none-lost j k (note-drops j k p named) (none ∙ r .rounds);
             journal =
                 holds-drops j k held (passes j k (ap (λ (s : State). s .memory) state-is) (note-drops j k p named))
                 (drops-one j k p named (begun-is begun)) (r .journal) e;

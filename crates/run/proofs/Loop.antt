@@ -6,8 +6,8 @@ use native.Mathlib.Omega.{arith}
 use mathlib.Core.Bool.{Bool, true, false, true≢false}
 use mathlib.Core.List.{List}
 use lib.ListN.{length, getD, set}
-use Rattle.basics.specs.Choice.{pick, same}
-use Rattle.basics.proofs.Choice.{pick-then, pick-else, equal-same, lt-less, le-less}
+use Rattle.basics.specs.Choice.{same}
+use Rattle.basics.proofs.Choice.{pick-then, equal-same, lt-less, le-less}
 use Rattle.rows.specs.Rows as Rows
 use Rattle.rows.specs.Rows.{column}
 use Rattle.rows.specs.Nodes.{node-width, nexts}
@@ -24,13 +24,12 @@ use Rattle.job.specs.Job.{Job, job-of}
 use Rattle.job.proofs.Slots.{slot-acts, slot-drops}
 use Rattle.machine.specs.declared.Place.{Place}
 use Rattle.machine.specs.Memory.{Memory, fresh-memory}
-use Rattle.machine.specs.Table.{ended, is-return}
+use Rattle.machine.specs.Table.{ended}
 use Rattle.machine.specs.Run.{before, operation-after, resting, registers, state-after, fresh-state, reached}
 use Rattle.machine.specs.Notes.{acted, note}
 use Rattle.machine.specs.Journal.{item-of}
 use Rattle.machine.specs.Explained.{IsOperation}
 use Rattle.machine.proofs.Bounds.{MemoryWithin, PlaceWithin, within, reached-within, item-within}
-use Rattle.machine.proofs.Tallies.{lost-zero, lost-le}
 use Rattle.machine.proofs.Stamps.{drop-zero, first-zero, last-zero, start-zero, link-zero, join-zero, taken-none}
 use Rattle.theory.proofs.Operations.{note-first}
 use Rattle.theory.proofs.Operations.Hands.{Idling}
@@ -64,12 +63,11 @@ room-kept l r =
     }
 
 -- at the start: fresh memory and an empty journal
-pub ran-at-start : (j : Job) {head tail top : ℕ} {nodes ops by : List ℕ} → head ≡ fresh-memory .head → tail ≡ fresh-memory .tail → top ≡ fresh-memory .top → AllBlank nodes ops by → Ran j 0 head tail top 0 nodes ops by
+pub ran-at-start : (j : Job) {head tail top : ℕ} {nodes ops by : List ℕ} → head ≡ fresh-memory .head → tail ≡ fresh-memory .tail → top ≡ fresh-memory .top → AllBlank nodes ops by → Ran j 0 head tail top nodes ops by
 unfolding state-after fresh-state fresh-memory memory-of column
 ran-at-start j {ops = ops} h t p b =
     record {
       memory = λ i. record { head = h i; tail = t i; top = p i; next = λ x. b .no-node (Rows.place node-width x 0) i; mark = λ x. b .no-node (Rows.place node-width x 1) i; upper = λ x. b .no-node (Rows.place node-width x 2) i };
-      rounds = sym (lost-zero (note j));
       journal =
           record {
             agrees =
@@ -85,35 +83,27 @@ ran-at-start j {ops = ops} h t p b =
           };
     }
 
--- the loop's invariant: after k steps places, memory, lost rounds and journal are the definition's, so many processes still have operations, and
+-- the loop's invariant: after k steps places, memory and journal are the definition's, so many processes still have operations, and
 -- every list has the length that it was lent with
-pub record Turning (stream : List ℕ) (job : Heading) (k : ℕ) (places : List Place) (total head tail top lost : ℕ) (nodes₀ ops₀ by₀ nodes ops by : List ℕ) : Type 0 where
+pub record Turning (stream : List ℕ) (job : Heading) (k : ℕ) (places : List Place) (total head tail top : ℕ) (nodes₀ ops₀ by₀ nodes ops by : List ℕ) : Type 0 where
   pub small : k ≤ job .steps
   pub in-place : InPlace (job-of stream) k places
   pub counted : total ≡ working (job .count) places
-  pub ran : Ran (job-of stream) k head tail top lost nodes ops by
+  pub ran : Ran (job-of stream) k head tail top nodes ops by
   pub lengths : SameLengths nodes₀ ops₀ by₀ nodes ops by
 
 -- at the end: all steps are made
-pub finished : {stream : List ℕ} {job : Heading} {k : ℕ} {places : List Place} {total head tail top lost : ℕ} {nodes₀ ops₀ by₀ nodes ops by : List ℕ} → Turning stream job k places total head tail top lost nodes₀ ops₀ by₀ nodes ops by → job .steps ≤ k → Ran (job-of stream) (job .steps) head tail top lost nodes ops by
-finished {stream} {job} {k} {head = head} {tail = tail} {top = top} {lost = lost} {nodes = nodes} {ops = ops} {by = by} t over =
+pub finished : {stream : List ℕ} {job : Heading} {k : ℕ} {places : List Place} {total head tail top : ℕ} {nodes₀ ops₀ by₀ nodes ops by : List ℕ} → Turning stream job k places total head tail top nodes₀ ops₀ by₀ nodes ops by → job .steps ≤ k → Ran (job-of stream) (job .steps) head tail top nodes ops by
+finished {stream} {job} {k} {head = head} {tail = tail} {top = top} {nodes = nodes} {ops = ops} {by = by} t over =
     let small : k ≤ job .steps = t .small in
     let e : k ≡ job .steps = omega arith in
-    subst (λ x. Ran (job-of stream) x head tail top lost nodes ops by) e (t .ran)
-
--- fewer rounds are lost than the longest schedule has steps
-pub fewer-lost : {stream : List ℕ} {job : Heading} {k : ℕ} {places : List Place} {total head tail top lost : ℕ} {nodes₀ ops₀ by₀ nodes ops by : List ℕ} → Runnable stream job → Turning stream job k places total head tail top lost nodes₀ ops₀ by₀ nodes ops by → k < job .steps → lost < field .steps
-fewer-lost {stream} {k = k} r t more = omega (arith, t .ran .rounds, lost-le (note (job-of stream)) k, short r)
-
--- a turn that does not go back loses none
-unlost : {lost lost′ : ℕ} {back : Bool} → back ≡ false → lost′ ≡ lost + pick back 1 0 → lost′ ≡ lost
-unlost none loses = omega (arith, loses, pick-else {A = ℕ} 1 0 none)
+    subst (λ x. Ran (job-of stream) x head tail top nodes ops by) e (t .ran)
 
 -- the place that the code takes out
 place-within : {j : Job} {k p : ℕ} {places : List Place} → InPlace j k places → p < field .processes → PlaceWithin (j .count) (getD places p nowhere)
 place-within {j} {k} {p} l h = subst (PlaceWithin (j .count)) (sym (l .each p h)) (within j k .place p)
 
-module _ {stream : List ℕ} {job : Heading} (r : Runnable stream job) {k : ℕ} {places : List Place} {total head tail top lost : ℕ} {nodes₀ ops₀ by₀ nodes ops by : List ℕ} (t : Turning stream job k places total head tail top lost nodes₀ ops₀ by₀ nodes ops by) (more : k < job .steps) {slot : Slot} (slot-is : slot ≡ job-of stream .slot (k + 1)) (p : ℕ) (process-is : p ≡ process-of slot) where
+module _ {stream : List ℕ} {job : Heading} (r : Runnable stream job) {k : ℕ} {places : List Place} {total head tail top : ℕ} {nodes₀ ops₀ by₀ nodes ops by : List ℕ} (t : Turning stream job k places total head tail top nodes₀ ops₀ by₀ nodes ops by) (more : k < job .steps) {slot : Slot} (slot-is : slot ≡ job-of stream .slot (k + 1)) (p : ℕ) (process-is : p ≡ process-of slot) where
   -- the process that the schedule names
   abbrev process : ℕ
   process = process-of (job-of stream .slot (suc k))
@@ -145,9 +135,9 @@ module _ {stream : List ℕ} {job : Heading} (r : Runnable stream job) {k : ℕ}
   awake h = le-less (subst (λ (x : ℕ × Place). x .1 .operation .0 ≤ x .0) (λ i. (its-count r i, its-place i)) h)
 
   -- nothing happens
-  turning-idles : Idling (job-of stream) k → Turning stream job (k + 1) places total head tail top lost nodes₀ ops₀ by₀ nodes ops by
+  turning-idles : Idling (job-of stream) k → Turning stream job (k + 1) places total head tail top nodes₀ ops₀ by₀ nodes ops by
   turning-idles i =
-      subst (λ x. Turning stream job x places total head tail top lost nodes₀ ops₀ by₀ nodes ops by) (sym (add-one k))
+      subst (λ x. Turning stream job x places total head tail top nodes₀ ops₀ by₀ nodes ops by) (sym (add-one k))
       (record {
         small = more;
         in-place = places-idle (job-of stream) k i (t .in-place);
@@ -156,7 +146,7 @@ module _ {stream : List ℕ} {job : Heading} (r : Runnable stream job) {k : ℕ}
         lengths = t .lengths;
       })
 
-  pub turning-rests : job .count < place .operation .0 → Turning stream job (k + 1) places total head tail top lost nodes₀ ops₀ by₀ nodes ops by
+  pub turning-rests : job .count < place .operation .0 → Turning stream job (k + 1) places total head tail top nodes₀ ops₀ by₀ nodes ops by
   turning-rests h = turning-idles (rest-idles (job-of stream) k (rests h))
 
   m : Memory
@@ -207,9 +197,9 @@ module _ {stream : List ℕ} {job : Heading} (r : Runnable stream job) {k : ℕ}
       omega (arith, t .counted, working-has (job .count) places p (subst (λ n. p < n) (sym (t .in-place .eight)) p-in-range), still-has (job .count) (place .operation .0) h)
 
   module _ (steps : is-drop slot ≡ false) {s : Stepped} {nodes′ : List ℕ} (acts : place .operation .0 ≤ job .count) (is : IsStep place head tail top nodes s nodes′) where
-    turning-acts : {ops′ by′ : List ℕ} (after : Place) {total′ lost′ : ℕ} → Stored (event-at place head tail top nodes) (ended (s .row)) (place .operation .0) (k + 1) ops by ops′ by′ → after ≡ followed (job-of stream) p (place .operation) s → total′ ≡ total - 1 + still (job .count) (after .operation .0) → lost′ ≡ lost + pick (is-return (s .row)) 1 0 → SameLengths nodes ops by nodes′ ops′ by′ → Turning stream job (k + 1) (set places p after) total′ (s .head) (s .tail) (s .top) lost′ nodes₀ ops₀ by₀ nodes′ ops′ by′
-    turning-acts {ops′} {by′} after {total′} {lost′} stored f counts loses kept =
-        subst (λ x. Turning stream job x (set places p after) total′ (s .head) (s .tail) (s .top) lost′ nodes₀ ops₀ by₀ nodes′ ops′ by′) (sym (add-one k))
+    turning-acts : {ops′ by′ : List ℕ} (after : Place) {total′ : ℕ} → Stored (event-at place head tail top nodes) (ended (s .row)) (place .operation .0) (k + 1) ops by ops′ by′ → after ≡ followed (job-of stream) p (place .operation) s → total′ ≡ total - 1 + still (job .count) (after .operation .0) → SameLengths nodes ops by nodes′ ops′ by′ → Turning stream job (k + 1) (set places p after) total′ (s .head) (s .tail) (s .top) nodes₀ ops₀ by₀ nodes′ ops′ by′
+    turning-acts {ops′} {by′} after {total′} stored f counts kept =
+        subst (λ x. Turning stream job x (set places p after) total′ (s .head) (s .tail) (s .top) nodes₀ ops₀ by₀ nodes′ ops′ by′) (sym (add-one k))
         (record {
           small = more;
           in-place =
@@ -221,7 +211,7 @@ module _ {stream : List ℕ} {job : Heading} (r : Runnable stream job) {k : ℕ}
               omega (arith, t .counted, counted-in acts, counts, working-set (job .count) places p after (subst (λ n. p < n) (sym (t .in-place .eight)) p-in-range), still-has (job .count) (place .operation .0) acts);
           ran =
               ran-acts j k own acts-named (awake acts) (t .ran) real
-              (subst (λ (x : ℕ × Place). Stored (event-at (x .1) head tail top nodes) (ended (s .row)) (x .1 .operation .0) (x .0) ops by ops′ by′) (λ i. (add-one k i, its-place i)) stored) loses;
+              (subst (λ (x : ℕ × Place). Stored (event-at (x .1) head tail top nodes) (ended (s .row)) (x .1 .operation .0) (x .0) ops by ops′ by′) (λ i. (add-one k i, its-place i)) stored);
           lengths =
               record {
                 of-nodes = kept .of-nodes ∙ t .lengths .of-nodes;
@@ -243,15 +233,15 @@ module _ {stream : List ℕ} {job : Heading} (r : Runnable stream job) {k : ℕ}
         real = subst (λ x. IsStep x head tail top nodes s nodes′) its-place is
 
     -- a step after which the operation goes on
-    turning-goes : {ops′ by′ : List ℕ} (after : Place) {lost′ : ℕ} → Stored (event-at place head tail top nodes) (ended (s .row)) (place .operation .0) (k + 1) ops by ops′ by′ → ended (s .row) ≡ false → after ≡ record { operation = place .operation; row = s .row; h = s .h; t = s .t; n = s .n } → lost′ ≡ lost + pick (is-return (s .row)) 1 0 → SameLengths nodes ops by nodes′ ops′ by′ → Turning stream job (k + 1) (set places p after) total (s .head) (s .tail) (s .top) lost′ nodes₀ ops₀ by₀ nodes′ ops′ by′
-    turning-goes after stored on f loses kept =
+    turning-goes : {ops′ by′ : List ℕ} (after : Place) → Stored (event-at place head tail top nodes) (ended (s .row)) (place .operation .0) (k + 1) ops by ops′ by′ → ended (s .row) ≡ false → after ≡ record { operation = place .operation; row = s .row; h = s .h; t = s .t; n = s .n } → SameLengths nodes ops by nodes′ ops′ by′ → Turning stream job (k + 1) (set places p after) total (s .head) (s .tail) (s .top) nodes₀ ops₀ by₀ nodes′ ops′ by′
+    turning-goes after stored on f kept =
         turning-acts after stored (followed-going (job-of stream) p (place .operation) s on f)
         (let same : after .operation .0 ≡ place .operation .0 = ap (λ (q : Place). q .operation .0) f in
         omega (arith, counted-in acts, ap (still (job .count)) same, still-has (job .count) (place .operation .0) acts))
-        loses kept
+        kept
 
     -- a step at which it ends
-    turning-ends : {ops′ by′ : List ℕ} (after : Place) {total′ lost′ : ℕ} → Stored (event-at place head tail top nodes) (ended (s .row)) (place .operation .0) (k + 1) ops by ops′ by′ → ended (s .row) ≡ true → after ≡ before (job-of stream) (operation-after (job-of stream) p (place .operation .0)) → total′ ≡ total - 1 + still (job .count) (after .operation .0) → lost′ ≡ lost + pick (is-return (s .row)) 1 0 → SameLengths nodes ops by nodes′ ops′ by′ → Turning stream job (k + 1) (set places p after) total′ (s .head) (s .tail) (s .top) lost′ nodes₀ ops₀ by₀ nodes′ ops′ by′
+    turning-ends : {ops′ by′ : List ℕ} (after : Place) {total′ : ℕ} → Stored (event-at place head tail top nodes) (ended (s .row)) (place .operation .0) (k + 1) ops by ops′ by′ → ended (s .row) ≡ true → after ≡ before (job-of stream) (operation-after (job-of stream) p (place .operation .0)) → total′ ≡ total - 1 + still (job .count) (after .operation .0) → SameLengths nodes ops by nodes′ ops′ by′ → Turning stream job (k + 1) (set places p after) total′ (s .head) (s .tail) (s .top) nodes₀ ops₀ by₀ nodes′ ops′ by′
     turning-ends after stored over f = turning-acts after stored (followed-ended (job-of stream) p (place .operation) s over f)
 
   -- a drop
@@ -270,16 +260,16 @@ module _ {stream : List ℕ} {job : Heading} (r : Runnable stream job) {k : ℕ}
     its-first {waits} e = subst (λ (x : Place). same (cells ops First (x .operation .0)) 0 ≡ waits) its-place e
 
     -- with none begun
-    turning-waits : same (cells ops First (place .operation .0)) 0 ≡ true → {ops′ : List ℕ} (after : Place) {lost′ : ℕ} → after ≡ place → cells ops′ ≡ cells ops → lost′ ≡ lost → length ops′ ≡ length ops → Turning stream job (k + 1) (set places p after) total head tail top lost′ nodes₀ ops₀ by₀ nodes ops′ by
-    turning-waits e {ops′} after {lost′} stays rows none kept =
-        subst (λ x. Turning stream job x (set places p after) total head tail top lost′ nodes₀ ops₀ by₀ nodes ops′ by) (sym (add-one k))
+    turning-waits : same (cells ops First (place .operation .0)) 0 ≡ true → {ops′ : List ℕ} (after : Place) → after ≡ place → cells ops′ ≡ cells ops → length ops′ ≡ length ops → Turning stream job (k + 1) (set places p after) total head tail top nodes₀ ops₀ by₀ nodes ops′ by
+    turning-waits e {ops′} after stays rows kept =
+        subst (λ x. Turning stream job x (set places p after) total head tail top nodes₀ ops₀ by₀ nodes ops′ by) (sym (add-one k))
         (record {
           small = more;
           in-place = subst (λ x. InPlace j (suc k) (set places x after)) (sym p-is) (places-stay j k idling places process after process-in-range (t .in-place) (stays ∙ its-place));
           counted =
               (let here : still (job .count) (after .operation .0) ≡ still (job .count) (place .operation .0) = ap (λ (x : Place). still (job .count) (x .operation .0)) stays in
               omega (arith, t .counted, working-set (job .count) places p after (subst (λ n. p < n) (sym (t .in-place .eight)) p-in-range)));
-          ran = ran-idles j k idling (record { memory = t .ran .memory; rounds = none ∙ t .ran .rounds; journal = holds-same rows (t .ran .journal) });
+          ran = ran-idles j k idling (record { memory = t .ran .memory; journal = holds-same rows (t .ran .journal) });
           lengths = record { of-nodes = t .lengths .of-nodes; of-ops = kept ∙ t .lengths .of-ops; of-by = t .lengths .of-by };
         })
       where
@@ -290,9 +280,9 @@ module _ {stream : List ℕ} {job : Heading} (r : Runnable stream job) {k : ℕ}
         idling = waits-idle (job-of stream) k own drops-named held-in (t .ran) (its-first e)
 
     -- with one begun
-    turning-drops : same (cells ops First (place .operation .0)) 0 ≡ false → {ops′ : List ℕ} (after : Place) {total′ lost′ : ℕ} → after ≡ before (job-of stream) (operation-after (job-of stream) p (place .operation .0)) → cells ops′ ≡ stored Last (place .operation .0) dropped-mark (cells ops) → total′ ≡ total - 1 + still (job .count) (after .operation .0) → lost′ ≡ lost → length ops′ ≡ length ops → Turning stream job (k + 1) (set places p after) total′ head tail top lost′ nodes₀ ops₀ by₀ nodes ops′ by
-    turning-drops begun {ops′} after {total′} {lost′} next stores counts none kept =
-        subst (λ x. Turning stream job x (set places p after) total′ head tail top lost′ nodes₀ ops₀ by₀ nodes ops′ by) (sym (add-one k))
+    turning-drops : same (cells ops First (place .operation .0)) 0 ≡ false → {ops′ : List ℕ} (after : Place) {total′ : ℕ} → after ≡ before (job-of stream) (operation-after (job-of stream) p (place .operation .0)) → cells ops′ ≡ stored Last (place .operation .0) dropped-mark (cells ops) → total′ ≡ total - 1 + still (job .count) (after .operation .0) → length ops′ ≡ length ops → Turning stream job (k + 1) (set places p after) total′ head tail top nodes₀ ops₀ by₀ nodes ops′ by
+    turning-drops begun {ops′} after {total′} next stores counts kept =
+        subst (λ x. Turning stream job x (set places p after) total′ head tail top nodes₀ ops₀ by₀ nodes ops′ by) (sym (add-one k))
         (record {
           small = more;
           in-place =
@@ -301,25 +291,21 @@ module _ {stream : List ℕ} {job : Heading} (r : Runnable stream job) {k : ℕ}
               (subst (λ (x : ℕ × Place). after ≡ before j (operation-after j (x .0) (x .1 .operation .0))) (λ i. (p-is i, its-place i)) next));
           counted =
               omega (arith, t .counted, counted-in has, counts, working-set (job .count) places p after (subst (λ n. p < n) (sym (t .in-place .eight)) p-in-range), still-has (job .count) (place .operation .0) has);
-          ran = ran-drops j k own drops-named held-in (t .ran) (its-first begun) none (subst (λ x. cells ops′ ≡ stored Last (x .operation .0) dropped-mark (cells ops)) its-place stores);
+          ran = ran-drops j k own drops-named held-in (t .ran) (its-first begun) (subst (λ x. cells ops′ ≡ stored Last (x .operation .0) dropped-mark (cells ops)) its-place stores);
           lengths = record { of-nodes = t .lengths .of-nodes; of-ops = kept ∙ t .lengths .of-ops; of-by = t .lengths .of-by };
         })
       where
         j : Job
         j = job-of stream
 
-  -- the rounds lost with a turn that goes back or does not
-  abbrev gone-back : Bool → ℕ
-  gone-back back = lost + pick back 1 0
-
   -- a turn that ends the operation in hand, by its last step or by a drop
-  pub turning-over : {over back : Bool} {s : Stepped} {nodes′ ops′ by′ : List ℕ} (after : Place) {total′ lost′ : ℕ} → TurnLeaves slot place (k + 1) head tail top nodes ops by over back s nodes′ ops′ by′ → over ≡ true → place .operation .0 ≤ job .count → after ≡ before (job-of stream) (operation-after (job-of stream) p (place .operation .0)) → total′ ≡ total - 1 + still (job .count) (after .operation .0) → lost′ ≡ lost + pick back 1 0 → SameLengths nodes ops by nodes′ ops′ by′ → Turning stream job (k + 1) (set places p after) total′ (s .head) (s .tail) (s .top) lost′ nodes₀ ops₀ by₀ nodes′ ops′ by′
-  turning-over after (stepped acts over-is back-is is stores) over has f counts loses kept = turning-ends acts has is after stores (sym over-is ∙ over) f counts (loses ∙ ap gone-back back-is) kept
-  turning-over after (dropped is-dropped none (waits w e)) over has f counts loses kept = absurd (true≢false (sym over))
-  turning-over after (dropped is-dropped none (drops b e)) over has f counts loses kept = turning-drops is-dropped has b after f e counts (unlost none loses) (kept .of-ops)
+  pub turning-over : {over : Bool} {s : Stepped} {nodes′ ops′ by′ : List ℕ} (after : Place) {total′ : ℕ} → TurnLeaves slot place (k + 1) head tail top nodes ops by over s nodes′ ops′ by′ → over ≡ true → place .operation .0 ≤ job .count → after ≡ before (job-of stream) (operation-after (job-of stream) p (place .operation .0)) → total′ ≡ total - 1 + still (job .count) (after .operation .0) → SameLengths nodes ops by nodes′ ops′ by′ → Turning stream job (k + 1) (set places p after) total′ (s .head) (s .tail) (s .top) nodes₀ ops₀ by₀ nodes′ ops′ by′
+  turning-over after (stepped acts over-is is stores) over has f counts kept = turning-ends acts has is after stores (sym over-is ∙ over) f counts kept
+  turning-over after (dropped is-dropped (waits w e)) over has f counts kept = absurd (true≢false (sym over))
+  turning-over after (dropped is-dropped (drops b e)) over has f counts kept = turning-drops is-dropped has b after f e counts (kept .of-ops)
 
   -- a turn after which it goes on, or has not begun
-  pub turning-on : {over back : Bool} {s : Stepped} {nodes′ ops′ by′ : List ℕ} (after : Place) {lost′ : ℕ} → TurnLeaves slot place (k + 1) head tail top nodes ops by over back s nodes′ ops′ by′ → over ≡ false → place .operation .0 ≤ job .count → after ≡ record { operation = place .operation; row = s .row; h = s .h; t = s .t; n = s .n } → lost′ ≡ lost + pick back 1 0 → SameLengths nodes ops by nodes′ ops′ by′ → Turning stream job (k + 1) (set places p after) total (s .head) (s .tail) (s .top) lost′ nodes₀ ops₀ by₀ nodes′ ops′ by′
-  turning-on after (stepped acts over-is back-is is stores) over has f loses kept = turning-goes acts has is after stores (sym over-is ∙ over) f (loses ∙ ap gone-back back-is) kept
-  turning-on after (dropped is-dropped none (waits w e)) over has f loses kept = turning-waits is-dropped has w after f e (unlost none loses) (kept .of-ops)
-  turning-on after (dropped is-dropped none (drops b e)) over has f loses kept = absurd (true≢false over)
+  pub turning-on : {over : Bool} {s : Stepped} {nodes′ ops′ by′ : List ℕ} (after : Place) → TurnLeaves slot place (k + 1) head tail top nodes ops by over s nodes′ ops′ by′ → over ≡ false → place .operation .0 ≤ job .count → after ≡ record { operation = place .operation; row = s .row; h = s .h; t = s .t; n = s .n } → SameLengths nodes ops by nodes′ ops′ by′ → Turning stream job (k + 1) (set places p after) total (s .head) (s .tail) (s .top) nodes₀ ops₀ by₀ nodes′ ops′ by′
+  turning-on after (stepped acts over-is is stores) over has f kept = turning-goes acts has is after stores (sym over-is ∙ over) f kept
+  turning-on after (dropped is-dropped (waits w e)) over has f kept = turning-waits is-dropped has w after f e (kept .of-ops)
+  turning-on after (dropped is-dropped (drops b e)) over has f kept = absurd (true≢false over)

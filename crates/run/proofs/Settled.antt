@@ -18,17 +18,17 @@ kept : (P : ℕ → Type 0) (end : ℕ) → ((k : ℕ) → k < end → P k → P
 kept P end step k zero e h = let done : k ≡ end = omega arith in subst P done h
 kept P end step k (suc n) e h = kept P end step (k + 1) n (omega arith) (step k (omega arith) h)
 
-module _ {stream : List ℕ} {job : Heading} (r : Runnable stream job) {k : ℕ} {places : List Place} {total head tail top lost : ℕ} {nodes₀ ops₀ by₀ nodes ops by : List ℕ} (t : Turning stream job k places total head tail top lost nodes₀ ops₀ by₀ nodes ops by) (rest : EachRests (job .count) places) where
+module _ {stream : List ℕ} {job : Heading} (r : Runnable stream job) {k : ℕ} {places : List Place} {total head tail top : ℕ} {nodes₀ ops₀ by₀ nodes ops by : List ℕ} (t : Turning stream job k places total head tail top nodes₀ ops₀ by₀ nodes ops by) (rest : EachRests (job .count) places) where
   -- the invariant holds after the last step, with the same places, cells and lists
-  settled : Turning stream job (job .steps) places total head tail top lost nodes₀ ops₀ by₀ nodes ops by
+  settled : Turning stream job (job .steps) places total head tail top nodes₀ ops₀ by₀ nodes ops by
   settled =
       let small : k ≤ job .steps = t .small in
-      kept (λ x. Turning stream job x places total head tail top lost nodes₀ ops₀ by₀ nodes ops by) (job .steps)
+      kept (λ x. Turning stream job x places total head tail top nodes₀ ops₀ by₀ nodes ops by) (job .steps)
       (λ x more u. turning-rests r u more refl (process-of (job-of stream .slot (x + 1))) refl (rest _ (p-in-range r u more refl (process-of (job-of stream .slot (x + 1))) refl)))
       k (job .steps - k) (omega arith) t
 
   -- so what the code has now is what it has at the end
-  pub ran-to-end : Ran (job-of stream) (job .steps) head tail top lost nodes ops by
+  pub ran-to-end : Ran (job-of stream) (job .steps) head tail top nodes ops by
   ran-to-end = settled .ran
 
   -- and nobody makes the steps behind step k

@@ -1,7 +1,7 @@
 -- One turn of the run's loop: what the code holds after k steps, with the step that it makes, is what it holds after k + 1. Assumes nothing.
 use mathlib.Core.Path.{_≡_, refl, sym, ap, subst, _∙_}
 use mathlib.Core.Logic.{_≢_, _⊎_, inl, inr}
-use Prim.Native.Nat.{ℕ, suc, _+_, _≤_, _<_}
+use Prim.Native.Nat.{ℕ, suc, _≤_, _<_}
 use native.Mathlib.Omega.{arith}
 use mathlib.Core.Bool.{true, false}
 use mathlib.Core.List.{List}
@@ -9,7 +9,7 @@ use lib.ListN.{getD, set, length-set}
 use lib.Seq.{getD-set-same, getD-set-other}
 use Rattle.basics.specs.Choice.{pick}
 use Rattle.basics.specs.Maps.{upd}
-use Rattle.basics.proofs.Choice.{both, split, less-lt, pick-false, pick-then, pick-else}
+use Rattle.basics.proofs.Choice.{both, split, less-lt, pick-then, pick-else}
 use Rattle.basics.proofs.Maps.{upd-here, upd-there, upd-id}
 use Rattle.job.specs.Limits.{field}
 use Rattle.job.specs.declared.Operation as Machine
@@ -21,13 +21,11 @@ use Rattle.job.specs.Job.{Job}
 use Rattle.machine.specs.declared.Place.{Place}
 use Rattle.machine.specs.Memory.{Memory}
 use Rattle.machine.specs.Access.{Reached}
-use Rattle.machine.specs.Table.{ended, is-return}
+use Rattle.machine.specs.Table.{ended}
 use Rattle.machine.specs.Run.{State, before, operation-after, reached, row-after, place-after, resting, state-after}
-use Rattle.machine.specs.Notes.{Note, idle, acted, note, is-answer}
-use Rattle.machine.specs.Lost as Lost
+use Rattle.machine.specs.Notes.{Note, acted, note, is-answer}
 use Rattle.machine.proofs.Bounds.{within}
 use Rattle.machine.proofs.Slots.{answers-at-end, its-place, its-reach, acts-drops-none, state-rests, note-rests, state-acts, note-acts, note-drops, state-stays, drops-none}
-use Rattle.machine.proofs.Tallies.{lost-step}
 use Rattle.theory.proofs.Course.{PassesIn, ActsIn, passes-by}
 use Rattle.theory.proofs.Operations.{course, passes}
 use Rattle.theory.proofs.Operations.Locals.{memory}
@@ -64,11 +62,6 @@ module _ (j : Job) (p : ℕ) (o : Machine.Operation) (s : Stepped) {after : Plac
   unfolding followed
   followed-going e f = f ∙ sym (pick-else _ _ e)
 
--- a step that nobody makes loses no round
-pub none-lost : (j : Job) (k : ℕ) {lost : ℕ} → note j (suc k) ≡ idle → lost ≡ Lost.lost (note j) k → lost ≡ Lost.lost (note j) (suc k)
-unfolding idle
-none-lost j k said e = omega (arith, lost-step (note j) k (ap (λ (n : Note). n .back) said), pick-false {A = ℕ} 1 0)
-
 -- who rests has no operation in hand
 rested-past : (j : Job) (place : Place) → resting j place ≡ true → place .operation .0 ≤ j .count → ⊥
 unfolding resting
@@ -76,12 +69,11 @@ rested-past j place e h = omega (arith, less-lt e)
 
 module _ (j : Job) (k : ℕ) where
   -- a step at which nothing happens leaves everything
-  pub ran-idles : {head tail top lost : ℕ} {nodes ops by : List ℕ} → Idling j k → Ran j k head tail top lost nodes ops by → Ran j (suc k) head tail top lost nodes ops by
+  pub ran-idles : {head tail top : ℕ} {nodes ops by : List ℕ} → Idling j k → Ran j k head tail top nodes ops by → Ran j (suc k) head tail top nodes ops by
   unfolding memory
   ran-idles i r =
       record {
         memory = r .memory ∙ ap (λ (s : State). s .memory) (sym (i .state));
-        rounds = none-lost j k (i .said) (r .rounds);
         journal = holds-idle j k (passes j k (ap (λ (s : State). s .memory) (i .state)) (i .said)) (i .drops-none) (r .journal);
       }
 
@@ -170,9 +162,9 @@ module _ (j : Job) (k : ℕ) (p : Process) (named : j .slot (suc k) ≡ Acts p) 
       places-set j k places (p .0) q in-range l (ap (λ (s : State). s .places) (state-acts j k p named e) ∙ ap (upd (state-after j k .places) (p .0)) (sym f))
 
   -- an acting process: memory and journal of one more step
-  pub ran-acts : {head tail top lost lost′ : ℕ} {nodes ops by nodes′ ops′ by′ : List ℕ} {s : Stepped} → resting j place ≡ false → Ran j k head tail top lost nodes ops by → IsStep place head tail top nodes s nodes′ → Stored (event-at place head tail top nodes) (ended (s .row)) (place .operation .0) (suc k) ops by ops′ by′ → lost′ ≡ lost + pick (is-return (s .row)) 1 0 → Ran j (suc k) (s .head) (s .tail) (s .top) lost′ nodes′ ops′ by′
+  pub ran-acts : {head tail top : ℕ} {nodes ops by nodes′ ops′ by′ : List ℕ} {s : Stepped} → resting j place ≡ false → Ran j k head tail top nodes ops by → IsStep place head tail top nodes s nodes′ → Stored (event-at place head tail top nodes) (ended (s .row)) (place .operation .0) (suc k) ops by ops′ by′ → Ran j (suc k) (s .head) (s .tail) (s .top) nodes′ ops′ by′
   unfolding acted event-at
-  ran-acts {head} {tail} {top} {nodes = nodes} {ops} {by} {ops′ = ops′} {by′ = by′} {s = s} e r is stored loses =
+  ran-acts {head} {tail} {top} {nodes} {ops} {by} {ops′ = ops′} {by′ = by′} {s = s} e r is stored =
       let made = made-from (r .memory) is in
       let event : event-at place head tail top nodes ≡ note j (suc k) .event =
       ap (λ (m : Memory). acted place (reached m place) .event) (r .memory) ∙ ap (λ (n : Note). n .event) (sym (note-acts j k p named e))
@@ -182,10 +174,8 @@ module _ (j : Job) (k : ℕ) (p : Process) (named : j .slot (suc k) ≡ Acts p) 
       ∙ answers-at-end (row-after place a) (a .registers)
       ∙ ap ended (sym (made .row))
       in
-      let back : note j (suc k) .back ≡ is-return (s .row) = ap (λ (n : Note). n .back) (note-acts j k p named e) ∙ ap is-return (sym (made .row)) in
       record {
         memory = made .memory ∙ ap (λ (x : State). x .memory) (sym (state-acts j k p named e));
-        rounds = omega (arith, loses, r .rounds, lost-step (note j) k back);
         journal =
             holds-acts j k (place .operation .0) (acts-of e) answered (r .journal)
             (subst (λ v. Stored v (ended (s .row)) (place .operation .0) (suc k) ops by ops′ by′) event stored);

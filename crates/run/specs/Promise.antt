@@ -17,10 +17,8 @@ use Rattle.job.specs.Job.{Job, job-of, heading-of}
 use Rattle.job.specs.Ready.{Ready}
 use Rattle.machine.specs.declared.Place.{Place}
 use Rattle.machine.specs.declared.Row.the-variants.{Q1}
-use Rattle.machine.specs.Table.{ended, is-return}
+use Rattle.machine.specs.Table.{ended}
 use Rattle.machine.specs.Run.{state-after}
-use Rattle.machine.specs.Notes.{note}
-use Rattle.machine.specs.Lost as Lost
 use Rattle.access.specs.Nodes.{memory-of}
 use Rattle.step.specs.declared.Stepped.{Stepped}
 use Rattle.step.specs.Promise.{Inside, event-at, IsStep}
@@ -50,10 +48,9 @@ unfoldable pub working : ℕ → List Place → ℕ
 working count [] = 0
 working count (place ∷ places) = still count (place .operation .0) + working count places
 
--- memory, lost rounds and journal are those of the definition after k steps
-pub record Ran (j : Job) (k head tail top lost : ℕ) (nodes ops by : List ℕ) : Type 0 where
+-- memory and journal are those of the definition after k steps
+pub record Ran (j : Job) (k head tail top : ℕ) (nodes ops by : List ℕ) : Type 0 where
   pub memory : memory-of head tail top nodes ≡ state-after j k .memory
-  pub rounds : lost ≡ Lost.lost (note j) k
   pub journal : Holds j k ops by
 
 -- a row for every node and every operation, and a cell for every step
@@ -80,11 +77,10 @@ pub data DropLeaves (place : Place) (head tail top : ℕ) (ops : List ℕ) : Boo
   waits : {ops′ : List ℕ} → same (cells ops First (place .operation .0)) 0 ≡ true → cells ops′ ≡ cells ops → DropLeaves place head tail top ops false (as-it-was place head tail top) ops′
   drops : {ops′ : List ℕ} → same (cells ops First (place .operation .0)) 0 ≡ false → cells ops′ ≡ stored Last (place .operation .0) dropped-mark (cells ops) → DropLeaves place head tail top ops true (as-it-was place head tail top) ops′
 
--- what a turn of a place leaves: what its step does, and whether that went back; or what its drop does, which touches no node, enters no step and
--- goes nowhere
-pub data TurnLeaves (slot : Slot) (place : Place) (k head tail top : ℕ) (nodes ops by : List ℕ) : Bool → Bool → Stepped → List ℕ → List ℕ → List ℕ → Type 0 where
-  stepped : {over back : Bool} {s : Stepped} {nodes′ ops′ by′ : List ℕ} → is-drop slot ≡ false → over ≡ ended (s .row) → back ≡ is-return (s .row) → IsStep place head tail top nodes s nodes′ → Stored (event-at place head tail top nodes) (ended (s .row)) (place .operation .0) k ops by ops′ by′ → TurnLeaves slot place k head tail top nodes ops by over back s nodes′ ops′ by′
-  dropped : {over back : Bool} {s : Stepped} {ops′ : List ℕ} → is-drop slot ≡ true → back ≡ false → DropLeaves place head tail top ops over s ops′ → TurnLeaves slot place k head tail top nodes ops by over back s nodes ops′ by
+-- what a turn of a place leaves: what its step does, or what its drop does, which touches no node and enters no step
+pub data TurnLeaves (slot : Slot) (place : Place) (k head tail top : ℕ) (nodes ops by : List ℕ) : Bool → Stepped → List ℕ → List ℕ → List ℕ → Type 0 where
+  stepped : {over : Bool} {s : Stepped} {nodes′ ops′ by′ : List ℕ} → is-drop slot ≡ false → over ≡ ended (s .row) → IsStep place head tail top nodes s nodes′ → Stored (event-at place head tail top nodes) (ended (s .row)) (place .operation .0) k ops by ops′ by′ → TurnLeaves slot place k head tail top nodes ops by over s nodes′ ops′ by′
+  dropped : {over : Bool} {s : Stepped} {ops′ : List ℕ} → is-drop slot ≡ true → DropLeaves place head tail top ops over s ops′ → TurnLeaves slot place k head tail top nodes ops by over s nodes ops′ by
 
 -- what step k of a place needs: its operation has not ended, and every list has what the step reads or stores
 pub record Makes (place : Place) (k head tail top : ℕ) (nodes ops by : List ℕ) : Type 0 where

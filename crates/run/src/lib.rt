@@ -17,15 +17,12 @@ use journal::is_waiting;
 use machine::Finish;
 use machine::Place;
 use place::advanced;
-use place::goes_back;
 use step::Stepped;
 use step::step;
 use table::has_ended;
 ghost use mathlib.Core.Path.{_≡_};
-ghost use mathlib.Core.Bool.{false};
-ghost use Prim.Native.Nat.{_+_, _-_, _≤_, _<_};
+ghost use Prim.Native.Nat.{_+_, _-_, _≤_};
 ghost use lib.ListN.{length};
-ghost use Rattle.basics.specs.Choice.{pick};
 ghost use Rattle.job.specs.Limits.{field};
 ghost use Rattle.job.specs.Job.{«job-of»};
 ghost use Rattle.machine.specs.Memory.{fresh-memory};
@@ -153,10 +150,9 @@ fn make(
     s
 }
 
-// What a turn of a place leaves: whether its operation is over, whether it went back, and the place's row and registers and the object's cells.
+// What a turn of a place leaves: whether its operation is over, and the place's row and registers and the object's cells.
 struct Turn {
     over: bool,
-    back: bool,
     left: Stepped,
 }
 
@@ -164,7 +160,6 @@ struct Turn {
 fn drop_at(place: Place, head: u16, tail: u16, top: u16, ops: &mut [u16]) -> Turn
     requires { ⌜ HasOps (place .operation .0) (now ops) ⌝ }
     ensures { λ r. ⌜ DropLeaves place head tail top (now (ops .entry)) (r .over) (r .left) (now (ops .exit)) ⌝ }
-    ensures { λ r. ⌜ r .back ≡ false ⌝ }
 {
     let o = place.operation;
     let row = place.row;
@@ -178,18 +173,10 @@ fn drop_at(place: Place, head: u16, tail: u16, top: u16, ops: &mut [u16]) -> Tur
         top,
     };
     if is_waiting(o, ops) {
-        return Turn {
-            over: false,
-            back: false,
-            left,
-        };
+        return Turn { over: false, left };
     }
     enter_drop(o, ops);
-    Turn {
-        over: true,
-        back: false,
-        left,
-    }
+    Turn { over: true, left }
 }
 
 // The turn of a place at step k: its step, or its drop.
@@ -205,7 +192,7 @@ fn take_turn(
     by: &mut [u16],
 ) -> Turn
     requires { ⌜ Makes place (k .0) head tail top (now nodes) (now ops) (now by) ⌝ }
-    ensures { λ r. ⌜ TurnLeaves slot place (k .0) head tail top (now (nodes .entry)) (now (ops .entry)) (now (by .entry)) (r .over) (r .back) (r .left) (now (nodes .exit)) (now (ops .exit)) (now (by .exit)) ⌝ }
+    ensures { λ r. ⌜ TurnLeaves slot place (k .0) head tail top (now (nodes .entry)) (now (ops .entry)) (now (by .entry)) (r .over) (r .left) (now (nodes .exit)) (now (ops .exit)) (now (by .exit)) ⌝ }
 {
     if is_drop(slot) {
         return drop_at(place, head, tail, top, ops);
@@ -214,20 +201,8 @@ fn take_turn(
     let row = left.row;
     Turn {
         over: has_ended(row),
-        back: goes_back(row),
         left,
     }
-}
-
-// How many rounds are lost, when a turn goes back or does not?
-fn lost_by(lost: u16, back: bool) -> u16
-    requires { ⌜ lost < field .steps ⌝ }
-    ensures { λ r. ⌜ r ≡ lost + pick back 1 0 ⌝ }
-{
-    if back {
-        return lost + 1;
-    }
-    lost
 }
 
 // Runs the whole schedule. The lent memory is blank; it is left with the nodes' rows and with the journal. The run is over when no process
@@ -241,7 +216,7 @@ pub fn run_all(
 ) -> Finish
     requires { ⌜ Runnable (now stream) job ⌝ }
     requires { ⌜ Room (now nodes) (now ops) (now by) × AllBlank (now nodes) (now ops) (now by) ⌝ }
-    ensures { λ r. ⌜ Ran (job-of (now (stream .entry))) (job .steps) (r .head) (r .tail) (r .top) (r .lost) (now (nodes .exit)) (now (ops .exit)) (now (by .exit)) ⌝ }
+    ensures { λ r. ⌜ Ran (job-of (now (stream .entry))) (job .steps) (r .head) (r .tail) (r .top) (now (nodes .exit)) (now (ops .exit)) (now (by .exit)) ⌝ }
     ensures { λ r. ⌜ IdleBehind (job-of (now (stream .entry))) (r .reach .0) (job .steps) ⌝ }
 {
     let count = job.count;
@@ -252,7 +227,6 @@ pub fn run_all(
     let mut head = fresh.head;
     let mut tail = fresh.tail;
     let mut top = fresh.top;
-    let mut lost: u16 = 0;
     let mut k: u16 = 0;
     while k < steps {
         k += 1;
@@ -269,7 +243,6 @@ pub fn run_all(
         head = s.head;
         tail = s.tail;
         top = s.top;
-        lost = lost_by(lost, turned.back);
         if turned.over {
             let after = place_after(stream, job, p, o);
             run.places[i] = after;
@@ -280,7 +253,6 @@ pub fn run_all(
                     tail,
                     top,
                     reach: Step(k),
-                    lost,
                 };
             }
             continue;
@@ -294,6 +266,5 @@ pub fn run_all(
         tail,
         top,
         reach: Step(k),
-        lost,
     }
 }

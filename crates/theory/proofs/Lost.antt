@@ -1,5 +1,4 @@
 -- How many rounds a queue can lose: for every job of kind 1, every schedule and any number of processes. Assumes nothing.
-pub mod Tallies
 pub mod Totals
 pub mod Rows
 pub mod Turns

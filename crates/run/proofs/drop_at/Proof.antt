@@ -6,10 +6,10 @@ use Rattle.run.proofs.drop_at.Statement.{statement}
 use Rattle.run.proofs.drop_at.Tie as tie
 
 returns : tie.Need-returns
-returns c = (waits (sym (c .before .is-waiting .ensures) ∙ c .if1 .taken) refl, refl)
+returns c = waits (sym (c .before .is-waiting .ensures) ∙ c .if1 .taken) refl
 
 returns-2 : tie.Need-returns-2
-returns-2 c = (drops (sym (c .before .before .before .before .before .is-waiting .ensures) ∙ c .before .before .before .before .if1 .left) (c .before .before .enter-drop .ensures), refl)
+returns-2 c = drops (sym (c .before .before .before .before .before .is-waiting .ensures) ∙ c .before .before .before .before .if1 .left) (c .before .before .enter-drop .ensures)
 
 pub drop-at-spec : {M : Type 1} → statement M
 drop-at-spec =

@@ -23,7 +23,7 @@ use Rattle.theory.proofs.Life.{operation-some, links-once}
 use Rattle.theory.proofs.Operations.{note-first, course}
 use Rattle.theory.proofs.Operations.Drops.{actor-drops-none, actor-undropped}
 use Rattle.theory.proofs.Explains.Plays.{put-lines-one-more}
-use Rattle.theory.proofs.Lost.Tallies.{tally-zero, tally-meets, tally-misses, tally-none, tally-below, tally-but-one}
+use Rattle.machine.proofs.Tallies.{tally-zero, tally-meets, tally-misses, tally-none, tally-below, tally-but-one}
 use Rattle.theory.proofs.Lost.Charges.{links-at, links-gone, gone-is, gone-links, gone-dropped}
 
 -- a drop of an operation that has linked its node

@@ -19,7 +19,7 @@ use Rattle.machine.proofs.Stamps.{link-zero, link-le}
 use Rattle.theory.proofs.Operations.Locals.{memory}
 use Rattle.theory.proofs.Operations.Hands.{place-of, Acting, Dropping, OneStep, one-step, by-own, place-dropped}
 use Rattle.theory.proofs.Operations.Hands.OneStep.{idles, drops, acts}
-use Rattle.theory.proofs.Lost.Tallies.{tally-zero, tally-up, tally-parts}
+use Rattle.machine.proofs.Tallies.{tally-zero, tally-up, tally-parts}
 use Rattle.theory.proofs.Lost.Totals.{of-process, of-process-unless, of-process-other}
 use Rattle.theory.proofs.Lost.Charges.{who, links-at, links-gone, others}
 use Rattle.theory.proofs.Lost.Ledger.{as-queue, at-place, lost-by, paid-by, Ledger, stands-before}

@@ -26,7 +26,7 @@ use Rattle.theory.proofs.Queue.Memory.{Now, Still.quiet, Change, Change
 use Rattle.theory.proofs.Queue.Grows.{Grows, change-grows}
 use Rattle.theory.proofs.Queue.Now.{now, passes-keeps}
 use Rattle.theory.proofs.Queue.Always.{always, step-changes}
-use Rattle.theory.proofs.Lost.Tallies.{tally-below}
+use Rattle.machine.proofs.Tallies.{tally-below}
 use Rattle.theory.proofs.Lost.Totals.{of-process}
 use Rattle.theory.proofs.Lost.Charges.{who, links-gone, others, drop-stays, gone-later}
 use Rattle.theory.proofs.Lost.Rows.{Stands}

@@ -24,7 +24,7 @@ use Rattle.theory.proofs.Operations.Locals.{memory}
 use Rattle.theory.proofs.Queue.Memory.{Now, Change, Change.stays, Change.links, Change.tail-moves, Change.head-moves}
 use Rattle.theory.proofs.Queue.Now.{now}
 use Rattle.theory.proofs.Queue.Always.{always}
-use Rattle.theory.proofs.Lost.Tallies.{tally-misses}
+use Rattle.machine.proofs.Tallies.{tally-misses}
 use Rattle.theory.proofs.Lost.Totals.{of-process}
 use Rattle.theory.proofs.Lost.Charges.{who, drop-stays}
 use Rattle.theory.proofs.Lost.Rows.{Stands, stands-grows}

@@ -25,7 +25,7 @@ use Rattle.theory.proofs.Operations.Locals.{memory, local}
 use Rattle.theory.proofs.Operations.Hands.{place-of, next-place, Acting, local-own, by-own, place-moved, place-ended}
 use Rattle.theory.proofs.Queue.Now.{now}
 use Rattle.theory.proofs.Queue.Always.{always}
-use Rattle.theory.proofs.Lost.Tallies.{tally-meets, tally-misses, tally-up, tally-past}
+use Rattle.machine.proofs.Tallies.{tally-meets, tally-misses, tally-up, tally-past}
 use Rattle.theory.proofs.Lost.Totals.{of-process, of-process-is, of-process-unless}
 use Rattle.theory.proofs.Lost.Charges.{who, links-gone, others, node-of-other, node-gone}
 use Rattle.theory.proofs.Lost.Rows.{Stands}

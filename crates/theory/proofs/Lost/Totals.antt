@@ -7,7 +7,7 @@ use native.Mathlib.Omega.{arith}
 use Rattle.basics.specs.Choice.{pick, same}
 use Rattle.basics.proofs.Choice.{split, same-equal, equal-same, unequal-same}
 use Rattle.machine.specs.Lost.{tally}
-use Rattle.theory.proofs.Lost.Tallies.{counts-one, counts-none}
+use Rattle.machine.proofs.Tallies.{counts-one, counts-none}
 
 unfoldable pub total : (ℕ → ℕ) → ℕ → ℕ
 total f zero = 0
