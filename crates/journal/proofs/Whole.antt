@@ -34,7 +34,7 @@ counted-keeps j n ends true o k c a =
     (λ q op. upd-there (c First) 0 (suc (c First 0)) (operation-some op) ∙ a First q op) (a Last) (a Start) (a Link) (a Taken) (a Stands)
 
 -- and no other store of a step touches it
-first-noted : (e : Event) (o k : ℕ) (c : Cells) → noted e o k c First ≡ c First
+pub first-noted : (e : Event) (o k : ℕ) (c : Cells) → noted e o k c First ≡ c First
 unfolding noted stored pick same
 first-noted Quiet o k c = refl
 first-noted Round o k c = refl

@@ -1,2 +1,3 @@
--- What each arm of the dispatch on accesses leaves.
+-- Which accesses go back, and what each arm of the dispatch on accesses leaves.
+pub mod Back
 pub mod Arms

@@ -25,6 +25,7 @@ use access::top_to_next;
 use access::top_to_own;
 use job::Operation;
 use job::Step;
+use journal::count_lost;
 use journal::note;
 use machine::Access;
 use machine::Entry;
@@ -33,11 +34,12 @@ use machine::Place;
 use machine::Row;
 ghost use mathlib.Core.Path.{_≡_};
 ghost use mathlib.Core.Bool.{false};
-ghost use Rattle.machine.specs.Table.{successor, ended};
+ghost use Rattle.machine.specs.declared.Access.the-variants.{Link, TailToN};
+ghost use Rattle.machine.specs.Table.{successor, ended, is-return};
 ghost use Rattle.access.specs.View.{Does};
 ghost use Rattle.rows.specs.Operations.{cells};
-ghost use Rattle.journal.specs.Stored.{noted, HasCells};
-ghost use Rattle.step.specs.Promise.{Inside, heard, IsStep, event-at};
+ghost use Rattle.journal.specs.Stored.{noted, counted, Countable, HasCells};
+ghost use Rattle.step.specs.Promise.{Inside, heard, goes-back, IsStep, event-at};
 
 // What a step left: the place's row and registers, and the three cells of shared memory.
 pub struct Stepped {
@@ -60,7 +62,35 @@ fn logged(d: Accessed, own: Operation, k: Step, ops: &mut [u16]) -> Accessed
     d
 }
 
-// The access `a` of operation `own`, at step k. It is noted in the arm that makes it, where the compiled code knows what it was.
+// A Q3, counted as a lost round if it failed.
+fn tried(d: Accessed, ops: &mut [u16]) -> Accessed
+    requires { ⌜ Countable (now ops) ⌝ }
+    ensures { λ r. ⌜ (r ≡ d) × (cells (now (ops .exit)) ≡ counted (goes-back Link (d .outcome)) (cells (now (ops .entry)))) ⌝ }
+{
+    let outcome = d.outcome;
+    match outcome {
+        Outcome::Yes => {}
+        Outcome::No => count_lost(ops),
+        Outcome::Bare => {}
+    }
+    d
+}
+
+// A Q5 or T4, which is a lost round whether it moved Tail or not.
+fn helped(d: Accessed, ops: &mut [u16]) -> Accessed
+    requires { ⌜ Countable (now ops) ⌝ }
+    ensures { λ r. ⌜ (r ≡ d) × (cells (now (ops .exit)) ≡ counted (goes-back TailToN (d .outcome)) (cells (now (ops .entry)))) ⌝ }
+{
+    let outcome = d.outcome;
+    match outcome {
+        Outcome::Yes => count_lost(ops),
+        Outcome::No => count_lost(ops),
+        Outcome::Bare => {}
+    }
+    d
+}
+
+// The access `a` of operation `own`, at step k. It is noted and counted in the arm that makes it, where the compiled code knows what it was.
 fn perform(
     a: Access,
     own: Operation,
@@ -69,18 +99,18 @@ fn perform(
     nodes: &mut [u16],
     ops: &mut [u16],
 ) -> Accessed
-    requires { ⌜ Inside (own .0) (c .h) (c .t) (now nodes) × HasCells (heard a (own .0) c (now nodes)) (own .0) (now ops) ⌝ }
+    requires { ⌜ Inside (own .0) (c .h) (c .t) (now nodes) × HasCells (heard a (own .0) c (now nodes)) (own .0) (now ops) × Countable (now ops) ⌝ }
     ensures { λ d. ⌜ Does a (own .0) c (now (nodes .entry)) d (now (nodes .exit)) ⌝ }
-    ensures { λ d. ⌜ cells (now (ops .exit)) ≡ noted (heard a (own .0) c (now (nodes .entry))) (own .0) (k .0) (cells (now (ops .entry))) ⌝ }
+    ensures { λ d. ⌜ cells (now (ops .exit)) ≡ counted (goes-back a (d .outcome)) (noted (heard a (own .0) c (now (nodes .entry))) (own .0) (k .0) (cells (now (ops .entry)))) ⌝ }
 {
     match a {
         Access::ReadHead => logged(read_head(c), own, k, ops),
         Access::ReadTail => logged(read_tail(c), own, k, ops),
         Access::ReadNextOfH => logged(read_next_of_h(c, nodes), own, k, ops),
         Access::ReadNextOfT => logged(read_next_of_t(c, nodes), own, k, ops),
-        Access::Link => logged(link_own(own, c, nodes), own, k, ops),
+        Access::Link => tried(logged(link_own(own, c, nodes), own, k, ops), ops),
         Access::TailToOwn => logged(tail_to_own(own, c), own, k, ops),
-        Access::TailToN => logged(tail_to_n(c), own, k, ops),
+        Access::TailToN => helped(logged(tail_to_n(c), own, k, ops), ops),
         Access::HeadToN => logged(head_to_n(c), own, k, ops),
         Access::ReadTop => logged(read_top(c), own, k, ops),
         Access::ReadTopToTake => logged(read_top_to_take(c), own, k, ops),
@@ -112,7 +142,7 @@ fn successor(e: Entry, outcome: Outcome) -> Row
 }
 
 // Step k: that of place `p`, whose operation has not ended. The nodes' rows are shared memory; the operations' rows are the journal, where
-// the step's event is noted.
+// the step's event is noted, and a lost round counted.
 pub fn step(
     p: Place,
     k: Step,
@@ -123,9 +153,9 @@ pub fn step(
     ops: &mut [u16],
 ) -> Stepped
     requires { ⌜ (ended (p .row) ≡ false) × Inside (p .operation .0) (p .h) (p .t) (now nodes) ⌝ }
-    requires { ⌜ HasCells (event-at p head tail top (now nodes)) (p .operation .0) (now ops) ⌝ }
+    requires { ⌜ HasCells (event-at p head tail top (now nodes)) (p .operation .0) (now ops) × Countable (now ops) ⌝ }
     ensures { λ r. ⌜ IsStep p head tail top (now (nodes .entry)) r (now (nodes .exit)) ⌝ }
-    ensures { λ r. ⌜ cells (now (ops .exit)) ≡ noted (event-at p head tail top (now (nodes .entry))) (p .operation .0) (k .0) (cells (now (ops .entry))) ⌝ }
+    ensures { λ r. ⌜ cells (now (ops .exit)) ≡ counted (is-return (r .row)) (noted (event-at p head tail top (now (nodes .entry))) (p .operation .0) (k .0) (cells (now (ops .entry)))) ⌝ }
 {
     let own = p.operation;
     let here = p.row;
