@@ -7,7 +7,7 @@ use mathlib.Core.List.{List}
 use lib.ListN.{set}
 use Rattle.basics.specs.Choice.{same}
 use Rattle.basics.specs.Maps.{upd}
-use Rattle.rows.specs.Operations.{cells, stored, dropped-mark}
+use Rattle.rows.specs.Operations.{Cells, cells, stored, dropped-mark}
 use Rattle.rows.specs.Operations.Column.{First, Last}
 use Rattle.job.specs.declared.Process.{Process}
 use Rattle.job.specs.declared.Slot.the-variants.{Drops}
@@ -28,7 +28,7 @@ use Rattle.run.proofs.Turned.{places-set}
 
 -- rows that say the same hold the same journal
 pub holds-same : {j : Job} {k : ℕ} {ops ops′ by : List ℕ} → cells ops′ ≡ cells ops → Holds j k ops by → Holds j k ops′ by
-holds-same {j} {k} e h = record { agrees = subst (Agrees j k) (sym e) (h .agrees); by-at = h .by-at; by-later = h .by-later }
+holds-same {j} {k} e h = record { agrees = subst (Agrees j k) (sym e) (h .agrees); by-at = h .by-at; by-later = h .by-later; rounds = ap (λ (c : Cells). c First 0) e ∙ h .rounds }
 
 -- process p is to drop
 module _ (j : Job) (k : ℕ) (p : Process) (named : j .slot (suc k) ≡ Drops p) where

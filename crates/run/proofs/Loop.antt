@@ -24,12 +24,13 @@ use Rattle.job.specs.Job.{Job, job-of}
 use Rattle.job.proofs.Slots.{slot-acts, slot-drops}
 use Rattle.machine.specs.declared.Place.{Place}
 use Rattle.machine.specs.Memory.{Memory, fresh-memory}
-use Rattle.machine.specs.Table.{ended}
+use Rattle.machine.specs.Table.{ended, is-return}
 use Rattle.machine.specs.Run.{before, operation-after, resting, registers, state-after, fresh-state, reached}
 use Rattle.machine.specs.Notes.{acted, note}
 use Rattle.machine.specs.Journal.{item-of}
 use Rattle.machine.specs.Explained.{IsOperation}
 use Rattle.machine.proofs.Bounds.{MemoryWithin, PlaceWithin, within, reached-within, item-within}
+use Rattle.machine.proofs.Tallies.{lost-zero, lost-le}
 use Rattle.machine.proofs.Stamps.{drop-zero, first-zero, last-zero, start-zero, link-zero, join-zero, taken-none}
 use Rattle.theory.proofs.Operations.{note-first}
 use Rattle.theory.proofs.Operations.Hands.{Idling}
@@ -80,6 +81,7 @@ ran-at-start j {ops = ops} h t p b =
                 (λ o op. b .no-cell _ ∙ sym (stands-zero (note j) (j .count) (j .object) o));
             by-at = λ s low high. absurd (let x : ⊥ = omega arith in x);
             by-later = λ s later. b .no-step s;
+            rounds = b .no-cell _ ∙ sym (lost-zero (note j));
           };
     }
 
@@ -187,6 +189,12 @@ module _ {stream : List ℕ} {job : Heading} (r : Runnable stream job) {k : ℕ}
               t-row = omega (arith, few r, w .own .t, room .of-nodes);
               next-row = omega (arith, few r, next-in, room .of-nodes);
             };
+        some = w .from-one;
+        counting =
+            record {
+              count-row = omega (arith, room .of-ops);
+              room = omega (arith, t .ran .journal .rounds, lost-le (note (job-of stream)) k, short r, t .small);
+            };
         noting = record { own-row = omega (arith, few r, room .of-ops); item-row = omega (arith, few r, item, room .of-ops) };
         entering = omega (arith, short r, room .of-steps);
       }
@@ -197,7 +205,7 @@ module _ {stream : List ℕ} {job : Heading} (r : Runnable stream job) {k : ℕ}
       omega (arith, t .counted, working-has (job .count) places p (subst (λ n. p < n) (sym (t .in-place .eight)) p-in-range), still-has (job .count) (place .operation .0) h)
 
   module _ (steps : is-drop slot ≡ false) {s : Stepped} {nodes′ : List ℕ} (acts : place .operation .0 ≤ job .count) (is : IsStep place head tail top nodes s nodes′) where
-    turning-acts : {ops′ by′ : List ℕ} (after : Place) {total′ : ℕ} → Stored (event-at place head tail top nodes) (ended (s .row)) (place .operation .0) (k + 1) ops by ops′ by′ → after ≡ followed (job-of stream) p (place .operation) s → total′ ≡ total - 1 + still (job .count) (after .operation .0) → SameLengths nodes ops by nodes′ ops′ by′ → Turning stream job (k + 1) (set places p after) total′ (s .head) (s .tail) (s .top) nodes₀ ops₀ by₀ nodes′ ops′ by′
+    turning-acts : {ops′ by′ : List ℕ} (after : Place) {total′ : ℕ} → Stored (event-at place head tail top nodes) (ended (s .row)) (is-return (s .row)) (place .operation .0) (k + 1) ops by ops′ by′ → after ≡ followed (job-of stream) p (place .operation) s → total′ ≡ total - 1 + still (job .count) (after .operation .0) → SameLengths nodes ops by nodes′ ops′ by′ → Turning stream job (k + 1) (set places p after) total′ (s .head) (s .tail) (s .top) nodes₀ ops₀ by₀ nodes′ ops′ by′
     turning-acts {ops′} {by′} after {total′} stored f counts kept =
         subst (λ x. Turning stream job x (set places p after) total′ (s .head) (s .tail) (s .top) nodes₀ ops₀ by₀ nodes′ ops′ by′) (sym (add-one k))
         (record {
@@ -211,7 +219,7 @@ module _ {stream : List ℕ} {job : Heading} (r : Runnable stream job) {k : ℕ}
               omega (arith, t .counted, counted-in acts, counts, working-set (job .count) places p after (subst (λ n. p < n) (sym (t .in-place .eight)) p-in-range), still-has (job .count) (place .operation .0) acts);
           ran =
               ran-acts j k own acts-named (awake acts) (t .ran) real
-              (subst (λ (x : ℕ × Place). Stored (event-at (x .1) head tail top nodes) (ended (s .row)) (x .1 .operation .0) (x .0) ops by ops′ by′) (λ i. (add-one k i, its-place i)) stored);
+              (subst (λ (x : ℕ × Place). Stored (event-at (x .1) head tail top nodes) (ended (s .row)) (is-return (s .row)) (x .1 .operation .0) (x .0) ops by ops′ by′) (λ i. (add-one k i, its-place i)) stored);
           lengths =
               record {
                 of-nodes = kept .of-nodes ∙ t .lengths .of-nodes;
@@ -233,7 +241,7 @@ module _ {stream : List ℕ} {job : Heading} (r : Runnable stream job) {k : ℕ}
         real = subst (λ x. IsStep x head tail top nodes s nodes′) its-place is
 
     -- a step after which the operation goes on
-    turning-goes : {ops′ by′ : List ℕ} (after : Place) → Stored (event-at place head tail top nodes) (ended (s .row)) (place .operation .0) (k + 1) ops by ops′ by′ → ended (s .row) ≡ false → after ≡ record { operation = place .operation; row = s .row; h = s .h; t = s .t; n = s .n } → SameLengths nodes ops by nodes′ ops′ by′ → Turning stream job (k + 1) (set places p after) total (s .head) (s .tail) (s .top) nodes₀ ops₀ by₀ nodes′ ops′ by′
+    turning-goes : {ops′ by′ : List ℕ} (after : Place) → Stored (event-at place head tail top nodes) (ended (s .row)) (is-return (s .row)) (place .operation .0) (k + 1) ops by ops′ by′ → ended (s .row) ≡ false → after ≡ record { operation = place .operation; row = s .row; h = s .h; t = s .t; n = s .n } → SameLengths nodes ops by nodes′ ops′ by′ → Turning stream job (k + 1) (set places p after) total (s .head) (s .tail) (s .top) nodes₀ ops₀ by₀ nodes′ ops′ by′
     turning-goes after stored on f kept =
         turning-acts after stored (followed-going (job-of stream) p (place .operation) s on f)
         (let same : after .operation .0 ≡ place .operation .0 = ap (λ (q : Place). q .operation .0) f in
@@ -241,7 +249,7 @@ module _ {stream : List ℕ} {job : Heading} (r : Runnable stream job) {k : ℕ}
         kept
 
     -- a step at which it ends
-    turning-ends : {ops′ by′ : List ℕ} (after : Place) {total′ : ℕ} → Stored (event-at place head tail top nodes) (ended (s .row)) (place .operation .0) (k + 1) ops by ops′ by′ → ended (s .row) ≡ true → after ≡ before (job-of stream) (operation-after (job-of stream) p (place .operation .0)) → total′ ≡ total - 1 + still (job .count) (after .operation .0) → SameLengths nodes ops by nodes′ ops′ by′ → Turning stream job (k + 1) (set places p after) total′ (s .head) (s .tail) (s .top) nodes₀ ops₀ by₀ nodes′ ops′ by′
+    turning-ends : {ops′ by′ : List ℕ} (after : Place) {total′ : ℕ} → Stored (event-at place head tail top nodes) (ended (s .row)) (is-return (s .row)) (place .operation .0) (k + 1) ops by ops′ by′ → ended (s .row) ≡ true → after ≡ before (job-of stream) (operation-after (job-of stream) p (place .operation .0)) → total′ ≡ total - 1 + still (job .count) (after .operation .0) → SameLengths nodes ops by nodes′ ops′ by′ → Turning stream job (k + 1) (set places p after) total′ (s .head) (s .tail) (s .top) nodes₀ ops₀ by₀ nodes′ ops′ by′
     turning-ends after stored over f = turning-acts after stored (followed-ended (job-of stream) p (place .operation) s over f)
 
   -- a drop

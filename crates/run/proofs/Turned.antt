@@ -21,7 +21,7 @@ use Rattle.job.specs.Job.{Job}
 use Rattle.machine.specs.declared.Place.{Place}
 use Rattle.machine.specs.Memory.{Memory}
 use Rattle.machine.specs.Access.{Reached}
-use Rattle.machine.specs.Table.{ended}
+use Rattle.machine.specs.Table.{ended, is-return}
 use Rattle.machine.specs.Run.{State, before, operation-after, reached, row-after, place-after, resting, state-after}
 use Rattle.machine.specs.Notes.{Note, acted, note, is-answer}
 use Rattle.machine.proofs.Bounds.{within}
@@ -162,7 +162,7 @@ module _ (j : Job) (k : ℕ) (p : Process) (named : j .slot (suc k) ≡ Acts p) 
       places-set j k places (p .0) q in-range l (ap (λ (s : State). s .places) (state-acts j k p named e) ∙ ap (upd (state-after j k .places) (p .0)) (sym f))
 
   -- an acting process: memory and journal of one more step
-  pub ran-acts : {head tail top : ℕ} {nodes ops by nodes′ ops′ by′ : List ℕ} {s : Stepped} → resting j place ≡ false → Ran j k head tail top nodes ops by → IsStep place head tail top nodes s nodes′ → Stored (event-at place head tail top nodes) (ended (s .row)) (place .operation .0) (suc k) ops by ops′ by′ → Ran j (suc k) (s .head) (s .tail) (s .top) nodes′ ops′ by′
+  pub ran-acts : {head tail top : ℕ} {nodes ops by nodes′ ops′ by′ : List ℕ} {s : Stepped} → resting j place ≡ false → Ran j k head tail top nodes ops by → IsStep place head tail top nodes s nodes′ → Stored (event-at place head tail top nodes) (ended (s .row)) (is-return (s .row)) (place .operation .0) (suc k) ops by ops′ by′ → Ran j (suc k) (s .head) (s .tail) (s .top) nodes′ ops′ by′
   unfolding acted event-at
   ran-acts {head} {tail} {top} {nodes} {ops} {by} {ops′ = ops′} {by′ = by′} {s = s} e r is stored =
       let made = made-from (r .memory) is in
@@ -174,9 +174,10 @@ module _ (j : Job) (k : ℕ) (p : Process) (named : j .slot (suc k) ≡ Acts p) 
       ∙ answers-at-end (row-after place a) (a .registers)
       ∙ ap ended (sym (made .row))
       in
+      let back : note j (suc k) .back ≡ is-return (s .row) = ap (λ (n : Note). n .back) (note-acts j k p named e) ∙ ap is-return (sym (made .row)) in
       record {
         memory = made .memory ∙ ap (λ (x : State). x .memory) (sym (state-acts j k p named e));
         journal =
-            holds-acts j k (place .operation .0) (acts-of e) answered (r .journal)
-            (subst (λ v. Stored v (ended (s .row)) (place .operation .0) (suc k) ops by ops′ by′) event stored);
+            holds-acts j k (place .operation .0) (acts-of e) answered back (r .journal)
+            (subst (λ v. Stored v (ended (s .row)) (is-return (s .row)) (place .operation .0) (suc k) ops by ops′ by′) event stored);
       }

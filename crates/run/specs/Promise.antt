@@ -1,6 +1,6 @@
 -- What the run of a job needs of its stream and its lent memory, and what it leaves there: the definition's state and journal.
 use mathlib.Core.Path.{_≡_}
-use Prim.Native.Nat.{ℕ, _+_, _<_}
+use Prim.Native.Nat.{ℕ, _+_, _≤_, _<_}
 use mathlib.Core.List.{List, [], _∷_}
 use lib.ListN.{length, getD}
 use mathlib.Core.Bool.{Bool, true, false}
@@ -17,12 +17,12 @@ use Rattle.job.specs.Job.{Job, job-of, heading-of}
 use Rattle.job.specs.Ready.{Ready}
 use Rattle.machine.specs.declared.Place.{Place}
 use Rattle.machine.specs.declared.Row.the-variants.{Q1}
-use Rattle.machine.specs.Table.{ended}
+use Rattle.machine.specs.Table.{ended, is-return}
 use Rattle.machine.specs.Run.{state-after}
 use Rattle.access.specs.Nodes.{memory-of}
 use Rattle.step.specs.declared.Stepped.{Stepped}
 use Rattle.step.specs.Promise.{Inside, event-at, IsStep}
-use Rattle.journal.specs.Stored.{Stored, HasCells}
+use Rattle.journal.specs.Stored.{Stored, Countable, HasCells}
 use Rattle.journal.specs.Journal.{Holds}
 
 -- what a run needs of its stream: it is ready, and its heading is told
@@ -79,12 +79,14 @@ pub data DropLeaves (place : Place) (head tail top : ℕ) (ops : List ℕ) : Boo
 
 -- what a turn of a place leaves: what its step does, or what its drop does, which touches no node and enters no step
 pub data TurnLeaves (slot : Slot) (place : Place) (k head tail top : ℕ) (nodes ops by : List ℕ) : Bool → Stepped → List ℕ → List ℕ → List ℕ → Type 0 where
-  stepped : {over : Bool} {s : Stepped} {nodes′ ops′ by′ : List ℕ} → is-drop slot ≡ false → over ≡ ended (s .row) → IsStep place head tail top nodes s nodes′ → Stored (event-at place head tail top nodes) (ended (s .row)) (place .operation .0) k ops by ops′ by′ → TurnLeaves slot place k head tail top nodes ops by over s nodes′ ops′ by′
+  stepped : {over : Bool} {s : Stepped} {nodes′ ops′ by′ : List ℕ} → is-drop slot ≡ false → over ≡ ended (s .row) → IsStep place head tail top nodes s nodes′ → Stored (event-at place head tail top nodes) (ended (s .row)) (is-return (s .row)) (place .operation .0) k ops by ops′ by′ → TurnLeaves slot place k head tail top nodes ops by over s nodes′ ops′ by′
   dropped : {over : Bool} {s : Stepped} {ops′ : List ℕ} → is-drop slot ≡ true → DropLeaves place head tail top ops over s ops′ → TurnLeaves slot place k head tail top nodes ops by over s nodes ops′ by
 
--- what step k of a place needs: its operation has not ended, and every list has what the step reads or stores
+-- what step k of a place needs: its operation is there and has not ended, and every list has what the step reads or stores
 pub record Makes (place : Place) (k head tail top : ℕ) (nodes ops by : List ℕ) : Type 0 where
   pub going : ended (place .row) ≡ false
   pub inside : Inside (place .operation .0) (place .h) (place .t) nodes
+  pub some : 1 ≤ place .operation .0
   pub noting : HasCells (event-at place head tail top nodes) (place .operation .0) ops
+  pub counting : Countable ops
   pub entering : k < length by

@@ -14,6 +14,7 @@ use journal::enter;
 use journal::enter_drop;
 use journal::enter_end;
 use journal::is_waiting;
+use journal::lost_rounds;
 use machine::Finish;
 use machine::Place;
 use place::advanced;
@@ -26,8 +27,10 @@ ghost use lib.ListN.{length};
 ghost use Rattle.job.specs.Limits.{field};
 ghost use Rattle.job.specs.Job.{«job-of»};
 ghost use Rattle.machine.specs.Memory.{fresh-memory};
-ghost use Rattle.machine.specs.Table.{ended};
+ghost use Rattle.machine.specs.Table.{ended, is-return};
 ghost use Rattle.machine.specs.Run.{before, «operation-after»};
+ghost use Rattle.machine.specs.Notes.{note};
+ghost use Rattle.machine.specs.Lost.{lost};
 ghost use Rattle.machine.specs.Idle.{IdleBehind};
 ghost use Rattle.step.specs.Promise.{IsStep, «event-at»};
 ghost use Rattle.journal.specs.Stored.{Stored};
@@ -140,7 +143,7 @@ fn make(
 ) -> Stepped
     requires { ⌜ Makes place (k .0) head tail top (now nodes) (now ops) (now by) ⌝ }
     ensures { λ s. ⌜ IsStep place head tail top (now (nodes .entry)) s (now (nodes .exit)) ⌝ }
-    ensures { λ s. ⌜ Stored (event-at place head tail top (now (nodes .entry))) (ended (s .row)) (place .operation .0) (k .0) (now (ops .entry)) (now (by .entry)) (now (ops .exit)) (now (by .exit)) ⌝ }
+    ensures { λ s. ⌜ Stored (event-at place head tail top (now (nodes .entry))) (ended (s .row)) (is-return (s .row)) (place .operation .0) (k .0) (now (ops .entry)) (now (by .entry)) (now (ops .exit)) (now (by .exit)) ⌝ }
 {
     let o = place.operation;
     enter(o, k, ops, by);
@@ -218,6 +221,7 @@ pub fn run_all(
     requires { ⌜ Room (now nodes) (now ops) (now by) × AllBlank (now nodes) (now ops) (now by) ⌝ }
     ensures { λ r. ⌜ Ran (job-of (now (stream .entry))) (job .steps) (r .head) (r .tail) (r .top) (now (nodes .exit)) (now (ops .exit)) (now (by .exit)) ⌝ }
     ensures { λ r. ⌜ IdleBehind (job-of (now (stream .entry))) (r .reach .0) (job .steps) ⌝ }
+    ensures { λ r. ⌜ r .lost ≡ lost (note (job-of (now (stream .entry)))) (job .steps) ⌝ }
 {
     let count = job.count;
     let steps = job.steps;
@@ -253,6 +257,7 @@ pub fn run_all(
                     tail,
                     top,
                     reach: Step(k),
+                    lost: lost_rounds(ops),
                 };
             }
             continue;
@@ -266,5 +271,6 @@ pub fn run_all(
         tail,
         top,
         reach: Step(k),
+        lost: lost_rounds(ops),
     }
 }

@@ -3,9 +3,13 @@
 -- nothing.
 use borrow.Author.Needs.{needs}
 use native.Mathlib.Omega.{arith}
-use mathlib.Core.Path.{refl, sym, _∙_}
-use Prim.Native.Nat.{_-_}
+use mathlib.Core.Path.{_≡_, refl, sym, _∙_}
+use Prim.Native.Nat.{ℕ, _-_}
+use mathlib.Core.List.{List}
+use lib.ListN.{length}
+use Rattle.rows.specs.Operations.{HasOps}
 use Rattle.job.specs.Job.{job-of}
+use Rattle.run.specs.Promise.{Room}
 use Rattle.run.proofs.Bounds.{its-count, short, entry-read}
 use Rattle.run.proofs.Places.{each-rests}
 use Rattle.run.proofs.Loop.{Turning, ran-at-start, p-in-range, turning-rests, makes, counted-in, turning-over, turning-on, finished}
@@ -93,8 +97,18 @@ working-on-requires c κs =
     let here = c .before .before .before .before .before .before .before .before .before .before .before .before .before .before .before .before .before .before in
     counted-in (here .before .before .before .before .before .before .before .before .before .before .before .pre .0) (here .before .before .before .loop .inv) (here .before .before .loop-test .taken) (here .before .scheduled .ensures) _ (here .process-of .ensures) (c .before .before .before .before .before .before .before .before .before .before .before .before .before .if1 .left)
 
+-- row 0 is there as long as its list keeps its length
+count-there : {nodes ops by : List ℕ} (ops′ : List ℕ) → Room nodes ops by → length ops′ ≡ length ops → HasOps 0 ops′
+count-there ops′ room kept = omega (arith, room .of-ops)
+
+lost-rounds-requires : tie.Need-lost-rounds-requires Inv-loop μ-loop
+lost-rounds-requires c κs =
+    let loop = c .before .before .before .before .before .before .before .before .before .before .before .before .before .before .before .before .before .before .before .before .before .before .before .before in
+    count-there (c .before .before .before .before .before .before .before .before .before .before .before .before .take-turn .last .1 .1 .1 .1 .1 .1 .1 .0) (loop .before .before .before .before .before .before .before .before .pre .1 .0) (c .before .before .before .before .before .before .before .before .before .before .before .before .take-turn .kept .1 .1 .1 .1 .1 .1 .1 .0 ∙ loop .loop .inv .lengths .of-ops)
+
 returns : tie.Need-returns Inv-loop μ-loop
-returns c =
+returns d =
+    let c = d .before .before in
     let here = c .before .before .before .before .before .before .before .before .before .before .before .before .before .before .before .before .before .before .before .before in
     let made = c .before .before .before .before .before .before .before .before .before .before .before in
     let kept = made .take-turn .kept .1 .1 .1 .1 .1 .1 in
@@ -102,7 +116,8 @@ returns c =
     turning-over (here .before .before .before .before .before .before .before .before .before .before .before .pre .0) (here .before .before .before .loop .inv) (here .before .before .loop-test .taken) (here .before .scheduled .ensures) _ (here .process-of .ensures) (c .before .before .place-after .result) (made .take-turn .ensures) (c .before .before .before .if2 .taken) (c .before .before .before .before .before .before .before .before .before .before .before .before .before .before .before .if1 .left)
     (c .before .before .place-after .ensures) (c .before .working-on .ensures) (record { of-nodes = kept .0; of-ops = kept .1 .0; of-by = kept .1 .1 .0 }) in
     let rest = each-rests _ _ (turned .in-place .eight) (sym (turned .counted) ∙ c .if3 .taken) in
-    (ran-to-end (here .before .before .before .before .before .before .before .before .before .before .before .pre .0) turned rest, idle-behind (here .before .before .before .before .before .before .before .before .before .before .before .pre .0) turned rest)
+    let ran = ran-to-end (here .before .before .before .before .before .before .before .before .before .before .before .pre .0) turned rest in
+    (ran, (idle-behind (here .before .before .before .before .before .before .before .before .before .before .before .pre .0) turned rest, d .lost-rounds .ensures ∙ ran .journal .rounds))
 
 loop-again-2 : tie.Need-loop-again-2 Inv-loop μ-loop
 loop-again-2 c =
@@ -121,18 +136,23 @@ loop-again-3 c =
     (c .advanced .ensures) (record { of-nodes = kept .0; of-ops = kept .1 .0; of-by = kept .1 .1 .0 })
 
 same-length : tie.Need-same-length Inv-loop μ-loop
-same-length c = c .before .before .before .before .before .before .before .before .before .before .before .take-turn .kept .1 .1 .1 .1 .1 .1 .0 ∙ c .before .before .before .before .before .before .before .before .before .before .before .before .before .before .before .before .before .before .before .before .before .before .before .loop .inv .lengths .of-nodes
+same-length c = c .before .before .before .before .before .before .before .before .before .before .before .before .before .take-turn .kept .1 .1 .1 .1 .1 .1 .0 ∙ c .before .before .before .before .before .before .before .before .before .before .before .before .before .before .before .before .before .before .before .before .before .before .before .before .before .loop .inv .lengths .of-nodes
 
 same-length-2 : tie.Need-same-length-2 Inv-loop μ-loop
-same-length-2 c = c .before .before .before .before .before .before .before .before .before .before .before .take-turn .kept .1 .1 .1 .1 .1 .1 .1 .0 ∙ c .before .before .before .before .before .before .before .before .before .before .before .before .before .before .before .before .before .before .before .before .before .before .before .loop .inv .lengths .of-ops
+same-length-2 c = c .before .before .before .before .before .before .before .before .before .before .before .before .before .take-turn .kept .1 .1 .1 .1 .1 .1 .1 .0 ∙ c .before .before .before .before .before .before .before .before .before .before .before .before .before .before .before .before .before .before .before .before .before .before .before .before .before .loop .inv .lengths .of-ops
 
 same-length-3 : tie.Need-same-length-3 Inv-loop μ-loop
-same-length-3 c = c .before .before .before .before .before .before .before .before .before .before .before .take-turn .kept .1 .1 .1 .1 .1 .1 .1 .1 .0 ∙ c .before .before .before .before .before .before .before .before .before .before .before .before .before .before .before .before .before .before .before .before .before .before .before .loop .inv .lengths .of-by
+same-length-3 c = c .before .before .before .before .before .before .before .before .before .before .before .before .before .take-turn .kept .1 .1 .1 .1 .1 .1 .1 .1 .0 ∙ c .before .before .before .before .before .before .before .before .before .before .before .before .before .before .before .before .before .before .before .before .before .before .before .before .before .loop .inv .lengths .of-by
+
+lost-rounds-requires-2 : tie.Need-lost-rounds-requires-2 Inv-loop μ-loop
+lost-rounds-requires-2 c κs = count-there (c .before .before .loop .ops) (c .before .before .before .before .before .before .before .before .before .before .pre .1 .0) (c .before .before .loop .inv .lengths .of-ops)
 
 returns-2 : tie.Need-returns-2 Inv-loop μ-loop
 returns-2 c =
-    let loop = c .before .loop in
-    (finished (loop .inv) (c .loop-test .left), none-behind _ (loop .inv .small) (c .loop-test .left))
+    let end = c .before .before in
+    let loop = end .before .loop in
+    let ran = finished (loop .inv) (end .loop-test .left) in
+    (ran, (none-behind _ (loop .inv .small) (end .loop-test .left), c .lost-rounds2 .ensures ∙ ran .journal .rounds))
 
 pub run-all-spec : {M : Type 1} → statement M
 run-all-spec =
@@ -140,7 +160,7 @@ run-all-spec =
     (tie.spec
     Inv-loop μ-loop (λ c κs. c .before .before .before .before .pre .0) (λ c κs. c .line-up .ensures .eight) (λ c κs. search needs) loop-holds add-k scheduled-requires
     (λ c κs. tt) cast-i mul-place element-copy-out-place (λ c. omega (arith, c .before .before .before .before .before .before .before .loop-test .taken)) loop-again take-turn-requires
-    place-after-requires mul-after element-set-from-after working-on-requires same-length same-length-2 same-length-3 returns
+    place-after-requires mul-after element-set-from-after working-on-requires lost-rounds-requires same-length same-length-2 same-length-3 returns
     (λ c. omega (arith, c .before .before .before .before .before .before .before .before .before .before .before .before .before .before .before .before .before .before .before .before .before .before .loop-test .taken)) loop-again-2
     (λ c κs. search needs) mul-after-2 element-set-from-after-2 (λ c. omega (arith, c .before .before .before .before .before .before .before .before .before .before .before .before .before .before .before .before .before .before .before .before .loop-test .taken)) loop-again-3
-    (λ c. c .before .loop .inv .lengths .of-nodes) (λ c. c .before .loop .inv .lengths .of-ops) (λ c. c .before .loop .inv .lengths .of-by) returns-2)
+    lost-rounds-requires-2 (λ c. c .before .before .before .loop .inv .lengths .of-nodes) (λ c. c .before .before .before .loop .inv .lengths .of-ops) (λ c. c .before .before .before .loop .inv .lengths .of-by) returns-2)
