@@ -1,9 +1,9 @@
 -- What a run leaves gives each part of its report, and the parts are the whole. Assumes nothing.
-use mathlib.Core.Path.{_≡_, refl, sym, ap, ap₂, subst, _∙_}
+use mathlib.Core.Path.{_≡_, refl, sym, ap, subst, _∙_}
 use Prim.Native.Nat.{ℕ, _<_}
 use native.Mathlib.Nat.{zero-add}
 use native.Mathlib.Omega.{arith}
-use mathlib.Core.List.{List, _++_}
+use mathlib.Core.List.{List, _++_, append-assoc}
 use lib.ListN.{length}
 use Rattle.basics.specs.Maps.{at}
 use Rattle.rows.specs.Nodes.{HasNodes}
@@ -12,7 +12,7 @@ use Rattle.text.specs.Laid.{Wrote}
 use Rattle.job.specs.declared.Heading.{Heading}
 use Rattle.job.specs.Job.{Job, heading-of}
 use Rattle.machine.specs.declared.Finish.{Finish}
-use Rattle.machine.specs.Record.{Recorded, the-record}
+use Rattle.machine.specs.Record.{the-record}
 use Rattle.wording.specs.Report.{object-line, operation-lines, record-lines, lost-line, left-line, report}
 use Rattle.journal.specs.Journal.{Agrees}
 use Rattle.lines.specs.Members.{first-node, left-from, NodesThere, UppersThere}
@@ -41,7 +41,7 @@ pub record Parts (j : Job) (h : Heading) (ops by nodes : List ℕ) (reach lost n
   pub agrees : Agrees j (j .steps) (cells ops)
   pub within : Within ops by (h .count) reach
   pub nodes-there : NodesThere nodes (h .count) node
-  pub whole : object-line (h .object) ++ operation-lines j (j .steps) (h .count) ++ record-lines (found-lines (cells ops) (at by) (h .count) reach) ++ lost-line (h .object) lost ++ left-line (left-from (h .object) nodes node (h .count)) ≡ report j
+  pub whole : object-line (h .object) ++ operation-lines j (j .steps) (h .count) ++ record-lines (found-lines (cells ops) (at by) (h .count) reach) ++ (lost-line (h .object) lost ++ left-line (left-from (h .object) nodes node (h .count))) ≡ report j
 
 -- of the job's own heading
 parts-of-job : (j : Job) {ops by nodes : List ℕ} {end : Finish} → Leaves j (heading-of j) ops by nodes end → Parts j (heading-of j) ops by nodes (end .reach .0) (end .lost) (first-node (j .object) nodes (end .head) (end .top) (j .count))
@@ -59,9 +59,10 @@ parts-of-job j {ops} {by} {nodes} {end} l =
       };
       nodes-there = nodes-held j (j .steps) (end .head) (end .tail) (end .top) nodes (l .memory) (l .has-nodes);
       whole =
-          let lines : found-lines (cells ops) (at by) (j .count) (end .reach .0) ≡ the-record j (j .steps) = lines-held j (l .journal) (l .short) (end .reach .0) (l .behind .within) ∙ all-lines-to-reach j (l .behind) in
+          let lines = lines-held j (l .journal) (l .short) (end .reach .0) (l .behind .within) ∙ all-lines-to-reach j (l .behind) in
           let items = left-held j (j .steps) (end .head) (end .tail) (end .top) nodes (l .memory) in
-          λ i. object-line (j .object) ++ operation-lines j (j .steps) (j .count) ++ record-lines (lines i) ++ lost-line (j .object) (l .lost i) ++ left-line (items i);
+          (λ i. object-line (j .object) ++ operation-lines j (j .steps) (j .count) ++ record-lines (lines i) ++ (lost-line (j .object) (l .lost i) ++ left-line (items i)))
+          ∙ simp append-assoc;
     }
 
 pub parts : {j : Job} {h : Heading} {ops by nodes : List ℕ} {end : Finish} {node : ℕ} → Leaves j h ops by nodes end → node ≡ first-node (h .object) nodes (end .head) (end .top) (h .count) → Parts j h ops by nodes (end .reach .0) (end .lost) node

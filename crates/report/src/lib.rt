@@ -15,6 +15,7 @@ use rows::cell;
 use text::put_bytes;
 use text::put_labelled;
 ghost use mathlib.Core.Path.{_≡_};
+ghost use mathlib.Core.List.{_++_};
 ghost use Prim.Native.Nat.{_+_, _≤_, _<_};
 ghost use lib.ListN.{length};
 ghost use Rattle.basics.specs.Maps as Maps;
@@ -26,8 +27,8 @@ ghost use Rattle.job.specs.Limits.{field};
 ghost use Rattle.job.specs.Stream.{stream-length};
 ghost use Rattle.job.specs.Job.{job-of};
 ghost use Rattle.journal.specs.Journal.{Agrees};
-ghost use Rattle.lines.specs.Members.{Bounds, climb, «first-node», UppersThere};
-ghost use Rattle.wording.specs.Report.{operation-lines, record-lines, lost-line, report};
+ghost use Rattle.lines.specs.Members.{Bounds, climb, «first-node», left-from, NodesThere, UppersThere};
+ghost use Rattle.wording.specs.Report.{operation-lines, record-lines, lost-line, left-line, report};
 ghost use Rattle.report.specs.Found.{found, found-lines, Within};
 ghost use Rattle.report.specs.Reported.{Leaves, Reported};
 
@@ -169,6 +170,23 @@ fn lost_line(out: &mut [u8], at: usize, object: Kind, lost: u16) -> usize
     }
 }
 
+// The lines behind the record: the rounds that a queue lost, and what is left.
+fn last_lines(
+    out: &mut [u8],
+    at: usize,
+    object: Kind,
+    lost: u16,
+    nodes: &[u16],
+    node: u16,
+    count: u16,
+) -> usize
+    requires { ⌜ NodesThere (now nodes) count node × (at + length (lost-line object lost ++ left-line (left-from object (now nodes) node count)) ≤ length (now out)) ⌝ }
+    ensures { λ r. ⌜ Wrote (now (out .entry)) (now (out .exit)) at r (lost-line object lost ++ left-line (left-from object (now (nodes .entry)) node count)) ⌝ }
+{
+    let place = lost_line(out, at, object, lost);
+    left_line(out, place, object, nodes, node, count)
+}
+
 // The report of a finished run, at the front of a memory, and its length. Steps behind `end.reach` are idle and have no line.
 pub fn write_report(
     out: &mut [u8],
@@ -188,6 +206,5 @@ pub fn write_report(
     let place = object_line(out, 0, object);
     let place = operation_lines(out, place, stream, ops, h.count);
     let place = record_lines(out, place, ops, by, h.count, reach);
-    let place = lost_line(out, place, object, end.lost);
-    left_line(out, place, object, nodes, node, h.count)
+    last_lines(out, place, object, end.lost, nodes, node, h.count)
 }

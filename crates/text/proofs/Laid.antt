@@ -107,11 +107,6 @@ pub wrote-four : {before first second third after a b c d whole : List ℕ} {at 
 wrote-four {a} {b} {c} {d} {at} e room u v w x =
     wrote-both e room (wrote-three {at = at} refl (omega (arith, ap length e, length-append (a ++ b ++ c) d)) u v w) x
 
--- and of five
-pub wrote-five : {before first second third fourth after a b c d e whole : List ℕ} {at place further more then next : ℕ} → a ++ b ++ c ++ d ++ e ≡ whole → at + length whole ≤ length before → Wrote before first at place a → Wrote first second place further b → Wrote second third further more c → Wrote third fourth more then d → Wrote fourth after then next e → Wrote before after at next whole
-wrote-five {a} {b} {c} {d} {e} {at} all room u v w x y =
-    wrote-both all room (wrote-four {at = at} refl (omega (arith, ap length all, length-append (a ++ b ++ c ++ d) e)) u v w x) y
-
 -- a copy of a list: none of it
 pub wrote-uncopied : (out s : List ℕ) (at : ℕ) → Wrote out out at (at + 0) (take 0 s)
 wrote-uncopied out s at = subst (λ (n : ℕ). Wrote out out at n []) (sym (add-zero at)) (wrote-nothing out at)

@@ -1,4 +1,5 @@
 -- `replayer::replay_in` meets its contract: the run leaves what the report is written from. Assumes nothing.
+use mathlib.Core.Path.{_≡_}
 use mathlib.Core.List.{List}
 use Prim.Native.Nat.{ℕ}
 use native.Mathlib.Omega.{arith}
@@ -6,6 +7,8 @@ use Rattle.job.specs.declared.Heading.{Heading}
 use Rattle.job.specs.Job.{job-of}
 use Rattle.job.proofs.Ready.{header-there}
 use Rattle.machine.specs.declared.Finish.{Finish}
+use Rattle.machine.specs.Notes.{note}
+use Rattle.machine.specs.Lost.{lost}
 use Rattle.machine.specs.Idle.{IdleBehind}
 use Rattle.run.specs.Promise.{Runnable, Room, Ran}
 use Rattle.run.proofs.Bounds.{few, short}
@@ -15,8 +18,8 @@ use borrow.Author.Needs.{needs}
 use Rattle.replayer.proofs.replay_in.Statement.{statement}
 use Rattle.replayer.proofs.replay_in.Tie as tie
 
-left-by-run : {stream : List ℕ} {job : Heading} {end : Finish} {nodes ops by nodes′ ops′ by′ : List ℕ} → Runnable stream job → Room nodes ops by → SameLengths nodes ops by nodes′ ops′ by′ → Ran (job-of stream) (job .steps) (end .head) (end .tail) (end .top) (end .lost) nodes′ ops′ by′ → IdleBehind (job-of stream) (end .reach .0) (job .steps) → Leaves (job-of stream) job ops′ by′ nodes′ end
-left-by-run {nodes′ = nodes′} {ops′} {by′} r lent kept ran behind =
+left-by-run : {stream : List ℕ} {job : Heading} {end : Finish} {nodes ops by nodes′ ops′ by′ : List ℕ} → Runnable stream job → Room nodes ops by → SameLengths nodes ops by nodes′ ops′ by′ → Ran (job-of stream) (job .steps) (end .head) (end .tail) (end .top) nodes′ ops′ by′ → IdleBehind (job-of stream) (end .reach .0) (job .steps) → end .lost ≡ lost (note (job-of stream)) (job .steps) → Leaves (job-of stream) job ops′ by′ nodes′ end
+left-by-run {nodes′ = nodes′} {ops′} {by′} r lent kept ran behind rounds =
     let room : Room nodes′ ops′ by′ = room-kept kept lent in
     record {
       heading = r .told;
@@ -28,7 +31,7 @@ left-by-run {nodes′ = nodes′} {ops′} {by′} r lent kept ran behind =
       journal = ran .journal;
       memory = ran .memory;
       behind = behind;
-      lost = ran .rounds;
+      lost = rounds;
     }
 
 run-all-requires : tie.Need-run-all-requires
@@ -45,7 +48,7 @@ write-report-requires c κs =
       start .pre .0 .0 .whole,
       start .pre .0 .1,
       left-by-run (record { ready = start .pre .0 .0; told = told .heading-of .ensures }) (start .pre .1 .0)
-          (record { of-nodes = kept .0; of-ops = kept .1 .0; of-by = kept .1 .1 .0 }) (ran .run-all .ensures .0) (ran .run-all .ensures .1),
+          (record { of-nodes = kept .0; of-ops = kept .1 .0; of-by = kept .1 .1 .0 }) (ran .run-all .ensures .0) (ran .run-all .ensures .1 .0) (ran .run-all .ensures .1 .1),
     )
 
 pub replay-in-spec : {M : Type 1} → statement M

@@ -3,7 +3,7 @@ use mathlib.Core.Path.{ap}
 use native.Mathlib.Omega.{arith}
 use borrow.Author.Needs.{needs}
 use lib.ListN.{length, length-append}
-use Rattle.text.proofs.Laid.{wrote-five}
+use Rattle.text.proofs.Laid.{wrote-four}
 use Rattle.report.proofs.Whole.{head-there, uppers-there, parts, reported}
 use Rattle.report.proofs.write_report.Statement.{statement}
 use Rattle.report.proofs.write_report.Tie as tie
@@ -23,21 +23,15 @@ record-lines-requires c κs =
     let all = parts (c .before .before .before .before .before .before .before .before .before .before .before .before .before .before .before .before .pre .2) (c .before .before .before .before .before .before .before .before .before .first-node .ensures) in
     (search needs, all .within, omega (arith, simp length-append at (ap length (all .whole))))
 
-lost-line-requires : tie.Need-lost-line-requires
-lost-line-requires c κs =
+last-lines-requires : tie.Need-last-lines-requires
+last-lines-requires c κs =
     let all = parts (c .before .before .before .before .before .before .before .before .before .before .before .before .before .before .before .before .before .before .before .before .pre .2) (c .before .before .before .before .before .before .before .before .before .before .before .before .before .first-node .ensures) in
-    omega (arith, simp length-append at (ap length (all .whole)))
-
-left-line-requires : tie.Need-left-line-requires
-left-line-requires c κs =
-    let all = parts (c .before .before .before .before .before .before .before .before .before .before .before .before .before .before .before .before .before .before .before .before .before .before .before .before .pre .2) (c .before .before .before .before .before .before .before .before .before .before .before .before .before .before .before .before .before .first-node .ensures) in
-    (all .nodes-there, omega (arith, simp length-append at (ap length (all .whole))))
+    (all .nodes-there, simp length-append (omega (arith, simp length-append at (ap length (all .whole)))))
 
 returns : tie.Need-returns
 returns c =
-    let start = c .before .before .before .before .before .before .before .before .before .before .before .before .before .before .before .before .before .before .before .before .before .before .before .before .before .before .before in
-    let all = parts (start .pre .2) (c .before .before .before .before .before .before .before .before .before .before .before .before .before .before .before .before .before .before .before .before .first-node .ensures) in
-    reported (wrote-five (all .whole) (omega (arith, start .pre .1)) (c .before .before .before .before .before .before .before .before .before .before .before .before .before .before .before .before .before .before .object-line .ensures) (c .before .before .before .before .before .before .before .before .before .before .before .before .before .before .operation-lines .ensures) (c .before .before .before .before .before .before .before .before .before .before .record-lines .ensures) (c .before .before .before .before .before .before .lost-line .ensures) (search needs))
+    let all = parts (c .before .before .before .before .before .before .before .before .before .before .before .before .before .before .before .before .before .before .before .before .before .before .before .pre .2) (c .before .before .before .before .before .before .before .before .before .before .before .before .before .before .before .before .first-node .ensures) in
+    reported (wrote-four (all .whole) (omega arith) (c .before .before .before .before .before .before .before .before .before .before .before .before .before .before .object-line .ensures) (c .before .before .before .before .before .before .before .before .before .before .operation-lines .ensures) (c .before .before .before .before .before .before .record-lines .ensures) (search needs))
 
 pub write-report-spec : {M : Type 1} → statement M
 write-report-spec =
@@ -47,7 +41,6 @@ write-report-spec =
     object-line-requires
     operation-lines-requires
     record-lines-requires
-    lost-line-requires
-    left-line-requires
+    last-lines-requires
     (λ c. search needs)
     returns)
