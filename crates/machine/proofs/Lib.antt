@@ -8,5 +8,6 @@ pub mod ByKind
 pub mod Effected
 pub mod Placed
 pub mod Slots
+pub mod Returns
 pub mod Bounds
 pub mod Tallies

@@ -9,6 +9,7 @@ use Rattle.machine.specs.declared.Access.{Access}
 use Rattle.machine.specs.declared.Event.{Event}
 use Rattle.machine.specs.declared.Outcome.{Outcome}
 use Rattle.machine.specs.Access.{Reached}
+use Rattle.machine.specs.Lost.{goes-back}
 use Rattle.machine.specs.Notes.{event-of}
 use Rattle.access.specs.declared.Scalars as Access
 use Rattle.access.specs.declared.Accessed.{Accessed}
@@ -18,7 +19,7 @@ use Rattle.rows.specs.Operations.{Cells, cells, stored}
 use Rattle.rows.specs.Operations.Column.{First}
 use Rattle.journal.specs.Stored.{noted, counted, Countable, HasCells}
 use Rattle.journal.proofs.Whole.{first-noted}
-use Rattle.step.specs.Promise.{heard, goes-back}
+use Rattle.step.specs.Promise.{heard}
 
 -- what does not go back is not counted
 pub counts-none : (back : Bool) (c : Cells) → back ≡ false → c ≡ counted back c

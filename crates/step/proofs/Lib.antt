@@ -1,3 +1,2 @@
--- Which accesses go back, and what each arm of the dispatch on accesses leaves.
-pub mod Back
+-- What each arm of the dispatch on accesses leaves.
 pub mod Arms

@@ -1,13 +1,9 @@
 -- What the step of a place needs, and what it promises: the step of the definition, on shared memory as the code holds it.
 use mathlib.Core.Path.{_≡_}
 use Prim.Native.Nat.{ℕ}
-use mathlib.Core.Bool.{Bool, true, false}
 use mathlib.Core.List.{List}
 use Rattle.rows.specs.Nodes.{nexts, HasNodes}
 use Rattle.machine.specs.declared.Access.{Access}
-use Rattle.machine.specs.declared.Access.the-variants.{ReadHead, ReadTail, ReadNextOfH, ReadNextOfT, Link, TailToOwn, TailToN, HeadToN, ReadTop, ReadTopToTake, ReadMark, Push, RaiseMark, TopToNext, ReadUpper, ReadUpperToTake, LinkAbove, TopToOwn, TopToN, Cut, ClearFlag}
-use Rattle.machine.specs.declared.Outcome.{Outcome}
-use Rattle.machine.specs.declared.Outcome.the-variants.{Yes, No, Bare}
 use Rattle.machine.specs.declared.Event.{Event}
 use Rattle.machine.specs.declared.Place.{Place}
 use Rattle.machine.specs.Run.{reached, row-after}
@@ -37,31 +33,3 @@ pub record IsStep (p : Place) (head tail top : ℕ) (nodes : List ℕ) (r : Step
 -- what that step is for the record
 unfoldable pub event-at : Place → ℕ → ℕ → ℕ → List ℕ → Event
 event-at p head tail top nodes = acted p (reached (memory-of head tail top nodes) p) .event
-
--- does an access that came out so lead back to Q1 or T1? Q3 alone links, and goes back if it fails; Q5 and T4 alone set Tail to n, and go back
-abbrev pub goes-back : Access → Outcome → Bool
-goes-back ReadHead o = false
-goes-back ReadTail o = false
-goes-back ReadNextOfH o = false
-goes-back ReadNextOfT o = false
-goes-back Link Yes = false
-goes-back Link No = true
-goes-back Link Bare = false
-goes-back TailToOwn o = false
-goes-back TailToN Yes = true
-goes-back TailToN No = true
-goes-back TailToN Bare = false
-goes-back HeadToN o = false
-goes-back ReadTop o = false
-goes-back ReadTopToTake o = false
-goes-back ReadMark o = false
-goes-back Push o = false
-goes-back RaiseMark o = false
-goes-back TopToNext o = false
-goes-back ReadUpper o = false
-goes-back ReadUpperToTake o = false
-goes-back LinkAbove o = false
-goes-back TopToOwn o = false
-goes-back TopToN o = false
-goes-back Cut o = false
-goes-back ClearFlag o = false

@@ -36,10 +36,11 @@ ghost use mathlib.Core.Path.{_≡_};
 ghost use mathlib.Core.Bool.{false};
 ghost use Rattle.machine.specs.declared.Access.the-variants.{Link, TailToN};
 ghost use Rattle.machine.specs.Table.{successor, ended, is-return};
+ghost use Rattle.machine.specs.Lost.{goes-back};
 ghost use Rattle.access.specs.View.{Does};
 ghost use Rattle.rows.specs.Operations.{cells};
 ghost use Rattle.journal.specs.Stored.{noted, counted, Countable, HasCells};
-ghost use Rattle.step.specs.Promise.{Inside, heard, goes-back, IsStep, event-at};
+ghost use Rattle.step.specs.Promise.{Inside, heard, IsStep, event-at};
 
 // What a step left: the place's row and registers, and the three cells of shared memory.
 pub struct Stepped {

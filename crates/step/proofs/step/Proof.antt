@@ -12,6 +12,7 @@ use Rattle.machine.specs.declared.Outcome.{Outcome}
 use Rattle.machine.specs.Access.{Reached}
 use Rattle.machine.specs.Table.{row-of, successor, ended, is-return}
 use Rattle.machine.specs.Run.{reach, registers, reached, row-after}
+use Rattle.machine.specs.Lost.{goes-back}
 use Rattle.machine.specs.Notes.{acted}
 use Rattle.access.specs.declared.Scalars.{Scalars}
 use Rattle.access.specs.declared.Accessed.{Accessed}
@@ -21,8 +22,8 @@ use Rattle.rows.specs.Operations.{Cells}
 use Rattle.journal.specs.Stored.{noted, counted}
 use Rattle.step.specs.declared.Stepped.{Stepped}
 use Rattle.step.proofs.Arms.{room-as}
-use Rattle.step.proofs.Back.{returns-is}
-use Rattle.step.specs.Promise.{heard, goes-back, IsStep, event-at}
+use Rattle.machine.proofs.Returns.{returns-is}
+use Rattle.step.specs.Promise.{heard, IsStep, event-at}
 use borrow.Author.Needs.{needs}
 use Rattle.step.proofs.step.Statement.{statement}
 use Rattle.step.proofs.step.Tie as tie

@@ -1,14 +1,14 @@
--- The accesses that go back are those whose rows lead to Q1 or T1. Assumes nothing.
+-- The steps that go back, by the step table, are a Q3 that fails, a Q5 and a T4, and no other. Assumes nothing.
 use mathlib.Core.Path.{_≡_, refl}
 use mathlib.Core.Bool.{false, true≢false}
 use Rattle.basics.specs.Choice.{same}
 use Rattle.machine.specs.declared.Row.{Row}
 use Rattle.machine.specs.declared.Row.the-variants.{Q1, Q2, Q3, Q4, Q5, T1, T2, T3, T4, T5, P1, P2, P3, P4, R1, R2, R3, R4, R5, V1, V2, V3, V4, V5, V6, V7, V8, W1, W2, W3, W4, W5, W6, W7, W8, W9, Done, ItemN, ItemT, Empty}
 use Rattle.machine.specs.declared.Entry.{Entry}
 use Rattle.machine.specs.declared.Outcome.{Outcome}
 use Rattle.machine.specs.declared.Outcome.the-variants.{Yes, No, Bare}
 use Rattle.machine.specs.Table.{row, table, position, row-of, successor, end-of, is-end, ended, is-return}
-use Rattle.step.specs.Promise.{goes-back}
+use Rattle.machine.specs.Lost.{goes-back}
 
 -- by how the access came out; one that found the object empty ends
 by-outcome : (e : Entry) → is-return (e .yes) ≡ goes-back (e .access) Yes → is-return (e .no) ≡ goes-back (e .access) No → false ≡ goes-back (e .access) Bare → (o : Outcome) → is-return (successor e o) ≡ goes-back (e .access) o
