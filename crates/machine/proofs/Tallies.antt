@@ -100,8 +100,8 @@ tally-parts f g (suc k) = omega (arith, tally-parts f g k, one-parts (f (suc k))
 -- lost rounds
 module _ (log : ℕ → Note) where
   pub lost-zero : lost log 0 ≡ 0
-  unfolding lost
-  lost-zero = tally-zero (λ s. log s .back)
+  unfolding lost tally
+  lost-zero = refl
 
   pub lost-step : (k : ℕ) {b : Bool} → log (suc k) .back ≡ b → lost log (suc k) ≡ lost log k + pick b 1 0
   unfolding lost tally
