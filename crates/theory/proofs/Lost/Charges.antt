@@ -1,4 +1,4 @@
--- The steps by which rounds are lost and paid for, by process: a node is paid for at the step that linked it. Assumes nothing.
+-- The steps at which rounds are lost, and those that link the nodes to pay with, by process. A node is known by the step that linked it. Assumes nothing.
 use mathlib.Core.Path.{_≡_, sym, ap, _∙_}
 use mathlib.Core.Logic.{_≢_}
 use Prim.Native.Nat.{ℕ, suc}

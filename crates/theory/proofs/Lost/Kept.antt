@@ -1,4 +1,4 @@
--- The ledger holds after any number of steps, whoever makes them; so what a process loses is paid for by the nodes of others, twice, and by its own that were
+-- The ledger holds after any number of steps, whoever makes them; so what a process loses is paid for with the nodes of others, twice, and with its own that were
 -- dropped before their Q4. Assumes nothing.
 use mathlib.Core.Path.{_≡_, sym, ap, subst, _∙_}
 use mathlib.Core.Logic.{_≢_, _⊎_, inl, inr}
@@ -53,7 +53,7 @@ module _ (base : Job) (p : ℕ) where
     unfolding idle
     none-lost = of-process-unless (λ s. note j s .back) (who j) p (suc k) (ap (λ x. x .back) nobody)
 
-  -- nor is what another process does
+  -- and none is p's that another process loses
   module _ {k r o : ℕ} (a : Acting j k r o) (away : p ≢ r) where
     its-owner : j .owner (note j (suc k) .by) ≡ r
     its-owner = ap (j .owner) (by-own a) ∙ a .hand .owned (a .to-count)

@@ -1,5 +1,5 @@
--- The ledger of one process: every round that it lost is paid for by a node, a failed Q3 by the node that it found, a help by the node that it helped Tail to. Each
--- node pays once for each of the two, since it pays for nodes in the order of their links; its own node pays only for a help, once its put is dropped before its Q4. Assumes nothing.
+-- The ledger of one process: it pays for every round that it lost with a node, for a failed Q3 with the node that it found, for a help with the node that it helped Tail
+-- to. It pays with nodes in the order of their links, so with each at most once for either; with its own only for a help, once its put is dropped before its Q4. Assumes nothing.
 use mathlib.Core.Path.{_≡_, sym, subst, _∙_}
 use mathlib.Core.Logic.{_≢_, _⊎_, inl, inr}
 use Prim.Native.Nat.{ℕ, suc, _+_, _≤_}
@@ -42,7 +42,7 @@ as-queue j =
 unfoldable pub local-of : Place → Local
 local-of p = record { row = p .row; registers = registers p }
 
--- nodes that process p pays for: another's; and, for a help, a dropped one
+-- nodes that process p may pay with: another's; and, for a help, a dropped one
 abbrev pub Other : Job → ℕ → ℕ → Type 0
 Other j p x = j .owner x ≢ p
 
@@ -59,7 +59,7 @@ pub data Settled (j : Job) (p k x : ℕ) : Type 0 where
   at-hand : state-after j k .places p .operation .0 ≡ x → AtQ4 (at-place j p k) → Settled j p k x
   gone : drop j k x ≢ 0 → Settled j p k x
 
--- the rounds that process p lost in k steps, and the nodes that pay for them: for failed Q3, those linked up to step a; for helps, up to step b
+-- the rounds that process p lost in k steps, and the nodes to pay for them with: for failed Q3, those linked up to step a; for helps, up to step b
 unfoldable pub lost-by : Job → ℕ → ℕ → ℕ
 lost-by j p k = tally (of-process (λ s. note j s .back) (who j) p) k
 
@@ -68,7 +68,7 @@ paid-by j p k a b =
     tally (others j p) a + (tally (others j p) b + tally (of-process (links-gone j k) (who j) p) b)
 
 pub record Ledger (base : Job) (p k : ℕ) : Type 0 where
-  -- the last node paid for a failed Q3 was linked at step a, the last for a help at step b
+  -- the last node paid with for a failed Q3 was linked at step a, the last for a help at step b
   pub a : ℕ
   pub b : ℕ
   pub a-made : a ≤ k
@@ -111,7 +111,7 @@ module _ (base : Job) where
     pays-later k x (inl n) = inl n
     pays-later k x (inr n) = inr (drop-stays j k x n)
 
-    -- nodes that paid go on doing so
+    -- more steps leave no less to pay with
     pub paid-later : (k a b : ℕ) → paid-by j p k a b ≤ paid-by j p (suc k) a b
     unfolding paid-by
     paid-later k a b = omega (arith, tally-below (of-process (links-gone j k) (who j) p) (of-process (links-gone j (suc k)) (who j) p) b (λ s low high. gone-later j k p s))

@@ -1,4 +1,4 @@
--- The ledger of a process over a step of another, or of nobody: it loses nothing, and a node that the step links is one to pay for. Assumes nothing.
+-- The ledger of a process over a step of another, or of nobody: it loses nothing, and a node that the step links is one to pay with. Assumes nothing.
 use mathlib.Core.Path.{_≡_, refl, sym, ap, subst, _∙_}
 use mathlib.Core.Logic.{_≢_, _⊎_, inl, inr}
 use Prim.Native.Nat.{ℕ, suc, _+_, _≤_, _<_}

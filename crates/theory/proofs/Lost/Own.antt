@@ -138,12 +138,12 @@ module _ (base : Job) (p k o : ℕ) (held : Ledger base p k) (a : Acting (as-que
       by-link (inl z) = let new = new-node base k x z n in subst (Settled j p (suc k)) (sym (by-own a) ∙ new .0) (linked-settled (new .1))
       by-link (inr m) = settled-kept base p k held x m (held .settled x own m) (λ e q. behind-q4 e m q)
 
-  -- the ledger behind the step, with what it paid for
+  -- the ledger behind the step, with what it paid
   ledger-with : (a′ b′ : ℕ) → a′ ≤ suc k → b′ ≤ link (note j) (suc k) (memory j (suc k) .tail) → lost-by j p (suc k) ≤ paid-by j p (suc k) a′ b′ → Stands a′ b′ (Other j p) (Pays j p (suc k)) (now c (suc k)) (local j (suc k) o) → Ledger base p (suc k)
   ledger-with a′ b′ made there paid s =
       record { a = a′; b = b′; a-made = made; b-reached = there; paid = paid; settled = settled-next; stands = stands-next s }
 
-  -- node x pays for a failed Q3, or for a help
+  -- node x is enough to pay with for a failed Q3, or for a help
   failure-paid : (x : ℕ) → held .a < link (note j) k x → Other j p x → suc (paid-by j p k (held .a) (held .b)) ≤ paid-by j p k (link (note j) k x) (held .b)
   unfolding paid-by
   failure-paid x later other = omega (arith, tally-past (others j p) (held .a) (link (note j) k x) later (node-of-other j k x (λ z. omega arith) p other))

@@ -1,5 +1,5 @@
--- By its row, what a process of a queue still owes for: the node behind the t that it read, if there is one, was linked after every node that it has paid for;
--- and that the steps of others leave it so. Assumes nothing.
+-- By its row, what a process of a queue may have to pay with next: the node behind the t that it read, if there is one, was linked after every node that it has paid
+-- with; and that the steps of others leave it so. Assumes nothing.
 use mathlib.Core.Path.{_≡_, sym, ap, subst, _∙_}
 use mathlib.Core.Logic.{_≢_, _⊎_, inl, inr}
 use Prim.Native.Nat.{ℕ, _≤_, _<_}
@@ -16,13 +16,13 @@ pub record Reached (v : Now) (t : ℕ) : Type 0 where
   pub t-linked : IsLinked (v .born) t
   pub t-reached : v .born t ≤ v .born (v .tail)
 
--- and the node behind it is one to pay for, linked after step `mark`
+-- and the node behind it is one to pay with, linked after step `mark`
 pub record Ahead (mark : ℕ) (Pays : ℕ → Type 0) (v : Now) (t : ℕ) : Type 0 where
   pub was-tail : Reached v t
   pub later : v .next t ≢ 0 → mark < v .born (v .next t)
   pub pays : v .next t ≢ 0 → Pays (v .next t)
 
--- at a row: the last node that a failed Q3 was paid for was linked at step a, and the last that a help was paid for at step b
+-- at a row: the last node paid with for a failed Q3 was linked at step a, and the last for a help at step b
 pub data Stands (a b : ℕ) (Other Pays : ℕ → Type 0) (v : Now) : Local → Type 0 where
   in-q1 : {h t n : ℕ} → Stands a b Other Pays v (at-row Q1 h t n)
   in-q2 : {h t n : ℕ} → Ahead b Pays v t → Stands a b Other Pays v (at-row Q2 h t n)
@@ -70,7 +70,7 @@ module _ {count k : ℕ} {v w : Now} (d : Sound count k v) (g : Grows k v w) whe
       by-order (inl h) = absurd (away (d .order .born-apart (v .tail) t (d .ends .tail-linked) (r .t-linked) (omega (arith, r .t-reached))))
       by-order (inr h) = omega (arith, ap (v .born) e, g .tail-goes-on)
 
-  -- whoever makes no step stands as before, if a new node is one to pay for
+  -- whoever makes no step stands as before, if a new node is one to pay with
   module _ {a b : ℕ} {Other Pays Pays′ : ℕ → Type 0} (kept : (x : ℕ) → Pays x → Pays′ x) (fails : (t : ℕ) → v .next t ≡ 0 → w .next t ≢ 0 → (a < w .born (w .next t)) × Other (w .next t)) (helps : (t : ℕ) → v .next t ≡ 0 → w .next t ≢ 0 → (b < w .born (w .next t)) × Pays′ (w .next t)) where
     pub stands-grows : {l : Local} → Stands a b Other Pays v l → Stands a b Other Pays′ w l
     stands-grows in-q1 = in-q1

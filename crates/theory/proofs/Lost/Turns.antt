@@ -28,9 +28,9 @@ pub data AtQ4 : Local → Type 0 where
 -- a turn from v to w that leaves the operation at l′
 pub data Costs (a b : ℕ) (Other Pays Pays′ : ℕ → Type 0) (v w : Now) (l′ : Local) : Type 0 where
   nothing : is-return (l′ .row) ≡ false → Stands a b Other Pays′ w l′ → Costs a b Other Pays Pays′ v w l′
-  -- it failed its Q3, for node x
+  -- it failed its Q3, and pays with node x
   a-failure : (x : ℕ) → is-return (l′ .row) ≡ true → a < v .born x → Other x → Stands (v .born x) b Other Pays′ w l′ → Costs a b Other Pays Pays′ v w l′
-  -- it helped Tail to node x
+  -- it helped Tail to node x, and pays with that
   a-help : (x : ℕ) → is-return (l′ .row) ≡ true → b < v .born x → Pays x → v .born x ≤ w .born (w .tail) → Stands a (v .born x) Other Pays′ w l′ → Costs a b Other Pays Pays′ v w l′
 
 -- whoever reads Tail may have to help it on
@@ -42,7 +42,7 @@ reads-tail {v = v} d low pays =
       pays = pays;
     }
 
--- the node behind t is one to pay for, and Tail is there now
+-- the node behind t is one to pay with, and Tail is there now
 helps : {a b t n : ℕ} {Other Pays Pays′ : ℕ → Type 0} {v w : Now} {l′ : Local} → Queues.Leads t n v → Ahead b Pays v t → is-return (l′ .row) ≡ true → v .born n ≤ w .born (w .tail) → Stands a (v .born (v .next t)) Other Pays′ w l′ → Costs a b Other Pays Pays′ v w l′
 helps {t = t} {v = v} leads r back there stands =
     let some : v .next t ≢ 0 = λ z. leads .some-node (sym (leads .next-is) ∙ z) in
