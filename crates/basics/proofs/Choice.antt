@@ -4,7 +4,8 @@ use mathlib.Core.Logic.{_≢_, _⊎_, inl, inr}
 use Prim.Native.Nat.{ℕ, _≤_, _<_}
 use mathlib.Core.Bool.{Bool, true, false, not, true≢false}
 use native.Mathlib.Omega.{arith}
-use lib.Dec.{T, eqb, ltb, eqb→eq, eqb-refl, ltb→lt, lt→ltb, nltb→le}
+use lib.Dec.{T, eqb, leb, ltb, eqb→eq, eqb-refl, ltb→lt, lt→ltb, nltb→le}
+use borrow.Author.Tests.{le-leb, lt-leb}
 use Rattle.basics.specs.Choice.{pick, same, less}
 
 -- a test is one or the other
@@ -100,3 +101,11 @@ compare m n = go (both (less n m))
     go : (less n m ≡ true) ⊎ (less n m ≡ false) → (m ≤ n) ⊎ (n < m)
     go (inl t) = inr (less-lt t)
     go (inr e) = inl (less-le e)
+
+-- a test of the code for at most is one for not greater
+pub at-most : (m n : ℕ) → leb m n ≡ not (less n m)
+at-most m n = go (compare m n)
+  where
+    go : (m ≤ n) ⊎ (n < m) → leb m n ≡ not (less n m)
+    go (inl h) = le-leb m n h ∙ ap not (sym (le-less h))
+    go (inr h) = lt-leb m n h ∙ ap not (sym (lt-less h))
