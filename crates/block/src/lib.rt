@@ -74,7 +74,7 @@ impl Checked {
 }
 
 // The answer of the block at a position.
-fn check(b: &[u8], position: u16) -> Checked
+pub fn check(b: &[u8], position: u16) -> Checked
     requires { ⌜ length (now b) ≡ block-size ⌝ }
     ensures { λ r. ⌜ number-of r ≡ block-refusal position (now (b .entry)) ⌝ }
 {

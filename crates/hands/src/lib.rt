@@ -13,12 +13,23 @@ use job::owner;
 use machine::Place;
 use table::first_row;
 
+// Is an operation a put? The number after the last is no operation.
+fn puts(stream: &[u8], count: u16, o: Operation) -> bool
+    requires { ⌜ (count ≡ job-of (now stream) .count) × (record-at count + 3 < length (now stream)) ⌝ }
+    ensures { λ r. ⌜ r ≡ job-of (now (stream .entry)) .is-put (o .0) ⌝ }
+{
+    if count < o.0 {
+        return false;
+    }
+    is_put(stream, o)
+}
+
 // A place before the first step of an operation of the stream's job.
-pub fn begin(stream: &[u8], object: Kind, o: Operation) -> Place
-    requires { ⌜ (record-at (o .0) + 3 < length (now stream)) × (object ≡ job-of (now stream) .object) ⌝ }
+pub fn begin(stream: &[u8], object: Kind, count: u16, o: Operation) -> Place
+    requires { ⌜ (count ≡ job-of (now stream) .count) × (record-at count + 3 < length (now stream)) × (object ≡ job-of (now stream) .object) ⌝ }
     ensures { λ r. ⌜ r ≡ before (job-of (now (stream .entry))) (o .0) ⌝ }
 {
-    let row = first_row(object, is_put(stream, o));
+    let row = first_row(object, puts(stream, count, o));
     Place {
         operation: o,
         row,

@@ -10,7 +10,6 @@ unfolding most-stream payload-size
 field-sound =
     record {
       stream-fits = omega arith;
-      behind-fits = omega arith;
       blocks-fit = omega arith;
       places = omega arith;
       rows = omega arith;

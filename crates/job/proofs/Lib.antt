@@ -2,6 +2,7 @@
 pub mod Conditions
 pub mod KindNumbers
 pub mod Slots
+pub mod Recorded
 pub mod Tests
 pub mod Blocks
 pub mod Table

@@ -3,13 +3,13 @@
 use mathlib.Core.Path.{_≡_, refl, sym, ap, fun-ext, _∙_}
 use Prim.Native.Nat.{ℕ, zero, suc, _+_, _-_, _*_, _≤_, _<_}
 use native.Mathlib.Omega.{arith}
-use mathlib.Core.Bool.{not}
+use mathlib.Core.Bool.{false, not, _||_, _&&_}
 use mathlib.Core.List.{List, [], _∷_, _++_}
 use borrow.Author.Tests.{not-false}
 use lib.ListN.{length, drop, getD, replicate, length-append, length-replicate, getD-replicate, length-drop, take-append-drop}
 use lib.Seq.{getD-take, getD-drop, ext-getD, length-take-le}
 use Rattle.basics.specs.Bytes.{Bytes}
-use Rattle.basics.specs.Choice.{same, less}
+use Rattle.basics.specs.Choice.{pick, same, less}
 use Rattle.basics.specs.Maps.{at}
 use Rattle.basics.specs.Words.{word}
 use Rattle.basics.proofs.Bytes.{bytes-none, bytes-append, bytes-take, bytes-drop}
@@ -20,10 +20,10 @@ use Rattle.job.specs.Limits.{most-stream, Sound}
 use Rattle.job.specs.Kind.{kind-of, kind-found}
 use Rattle.job.specs.Slot.{slot-of, process-of}
 use Rattle.job.specs.Stream.{kind, processes, operations, schedule-length, record-at, process, action, value, scheduled, stream-length}
-use Rattle.job.specs.Refusals.{outside, bad-padding, bad-processes, bad-schedule, bad-entry}
+use Rattle.job.specs.Refusals.{outside, bad-padding, bad-processes, bad-record, bad-records, bad-schedule, bad-entry}
 use Rattle.job.specs.File.{zeros, block-at, block-count, payloads, joined, stream-of, zeros-behind, zero-filled}
 use Rattle.job.specs.Job.{job-of}
-use Rattle.job.specs.Ready.{Ready}
+use Rattle.job.specs.Ready.{Ready, Named}
 use Rattle.job.proofs.Accepted.{Fine, Sized, Good-file, Good-stream}
 use Rattle.job.proofs.Alike.{Alike, fine-alike, stream-length-alike}
 use Rattle.job.proofs.Blocks.{length-payloads}
@@ -75,29 +75,47 @@ job-alike s t e =
     record {
       object = kind-found (kind-of (e i 0));
       count = 256 * e i 2 + e i 3;
-      owner = λ o. e i (2 + 4 * o);
-      is-put = λ o. same (e i (2 + 4 * o + 1)) 1;
-      field = λ o. 256 * e i (2 + 4 * o + 2) + e i (suc (2 + 4 * o + 2));
+      owner = λ o. pick (less (256 * e i 2 + e i 3) o) 0 (e i (2 + 4 * o));
+      is-put = λ o. pick (less (256 * e i 2 + e i 3) o) false (same (e i (2 + 4 * o + 1)) 1);
+      field = λ o. pick (less (256 * e i 2 + e i 3) o) 0 (256 * e i (2 + 4 * o + 2) + e i (suc (2 + 4 * o + 2)));
       steps = 256 * e i 4 + e i 5;
       slot = λ k. slot-of (e i (5 + 4 * (256 * e i 2 + e i 3) + k));
     }
 
--- a stream in range, as long as the longest, is ready for a run
-fine-ready : {l : Limits} {s : List ℕ} → Sound l → Fine l s → length s ≡ most-stream l → Ready s
-unfolding bad-processes bad-schedule bad-entry outside stream-length
-fine-ready {l} {s} sound f long =
-    let most : processes s ≤ l .processes = less-le (or-both (less (processes s) 1) (less (l .processes) (processes s)) (f .processes) .1) in
+-- number 6 turns back more processes than the limits have
+pub fine-processes : {l : Limits} {s : List ℕ} → Fine l s → processes s ≤ l .processes
+unfolding bad-processes outside
+fine-processes {l} {s} f = less-le (or-both (less (processes s) 1) (less (l .processes) (processes s)) (f .processes) .1)
+
+-- every entry of a stream in range names a process that a run has a place for
+fine-named : {l : Limits} {s : List ℕ} → Sound l → Fine l s → Named s
+unfolding bad-schedule bad-entry
+fine-named {l} {s} sound f =
     let entry : (k : ℕ) → 1 ≤ k → k < 1 + schedule-length s → process-of (slot-of (scheduled s k)) < processes s =
     λ k low high. less-lt (not-false (less (process-of (slot-of (scheduled s k))) (processes s)) (any-each (bad-entry s) 1 (schedule-length s) (f .schedule) k low high))
     in
+    record { each = λ k low high. omega (arith, entry k low (omega arith), fine-processes f, sound .places) }
+
+-- number 10 turns back an operation whose process is P or more
+pub fine-owner : {l : Limits} {s : List ℕ} → Fine l s → (o : ℕ) → 1 ≤ o → o ≤ operations s → process s o < processes s
+unfolding bad-records bad-record
+fine-owner {s = s} f o low high =
+    let fine : bad-record s o ≡ false = any-each (bad-record s) 1 (operations s) (f .records) o low (omega arith) in
+    let its-process : not (less (process s o) (processes s)) || outside 1 2 (action s o) ≡ false = or-both (not (less (process s o) (processes s)) || outside 1 2 (action s o)) (same (action s o) 2 && not (same (value s o) 0)) fine .0 in
+    less-lt (not-false (less (process s o) (processes s)) (or-both (not (less (process s o) (processes s))) (outside 1 2 (action s o)) its-process .0))
+
+-- a stream in range, as long as the longest, is ready for a run
+fine-ready : {l : Limits} {s : List ℕ} → Sound l → Fine l s → length s ≡ most-stream l → Ready s
+unfolding stream-length
+fine-ready {l} {s} sound f long =
     let few : operations s ≤ l .operations = fine-counts f .0 in
     let short : schedule-length s ≤ l .steps = fine-counts f .1 in
     record {
       rows = omega (arith, sound .rows);
       cells = omega (arith, sound .cells);
-      places = λ k low high. omega (arith, entry k low (omega arith), sound .places);
+      places = λ k low high. omega (arith, fine-named sound f .each k low high);
+      owners = λ o low high. omega (arith, fine-owner f o low high, fine-processes f, sound .places);
       whole = omega (arith, sound .stream-fits);
-      behind = omega (arith, sound .behind-fits);
     }
 
 pub length-joined : {l : Limits} (file : List ℕ) → Sized l file (block-count file) → length (joined file) ≡ payload-size * block-count file
@@ -157,5 +175,11 @@ module _ {l : Limits} (file : List ℕ) (g : Good-file l file) where
   unfolding zero-filled zeros-behind
   filled-job = job-alike _ _ (at-zeros (stream-of file) _)
 
+  filled-fine : Fine l (zero-filled l file)
+  filled-fine = fine-alike (record { byte = λ i h. ap (λ (f : ℕ → ℕ). f i) (sym at-filled) }) (g .fine)
+
   pub filled-ready : Sound l → Ready (zero-filled l file)
-  filled-ready sound = fine-ready sound (fine-alike (record { byte = λ i h. ap (λ (f : ℕ → ℕ). f i) (sym at-filled) }) (g .fine)) filled-long
+  filled-ready sound = fine-ready sound filled-fine filled-long
+
+  pub filled-named : Sound l → Named (zero-filled l file)
+  filled-named sound = fine-named sound filled-fine

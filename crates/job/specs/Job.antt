@@ -1,8 +1,8 @@
 -- The job that a stream holds, as a run sees it: no bytes, no limits, any number of processes.
 use Prim.Native.Nat.{ℕ}
-use mathlib.Core.Bool.{Bool}
+use mathlib.Core.Bool.{Bool, false}
 use mathlib.Core.List.{List}
-use Rattle.basics.specs.Choice.{same}
+use Rattle.basics.specs.Choice.{pick, same, less}
 use Rattle.job.specs.declared.Kind.{Kind}
 use Rattle.job.specs.declared.Heading.{Heading}
 use Rattle.job.specs.declared.Slot.{Slot}
@@ -26,15 +26,19 @@ pub record Job : Type 0 where
   -- what the schedule names for a step
   pub slot : ℕ → Slot
 
+-- what a stream says of an operation. Behind the record of operation N stands the schedule, so of a number past N it says nothing
+abbrev pub recorded : {A : Type 0} → List ℕ → A → (ℕ → A) → ℕ → A
+recorded s none said o = pick (less (operations s) o) none (said o)
+
 -- the job in a stream
 unfoldable pub job-of : List ℕ → Job
 job-of s =
     record {
       object = kind-found (kind-of (kind s));
       count = operations s;
-      owner = process s;
-      is-put = λ o. same (action s o) 1;
-      field = value s;
+      owner = recorded s 0 (process s);
+      is-put = recorded s false (λ o. same (action s o) 1);
+      field = recorded s 0 (value s);
       steps = schedule-length s;
       slot = λ k. slot-of (scheduled s k);
     }

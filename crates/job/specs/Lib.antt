@@ -7,6 +7,7 @@ pub mod Refusals
 pub mod File
 pub mod Calls
 pub mod Job
+pub mod Idle
 pub mod Ready
 pub mod RoundTrip
 pub mod Examples

@@ -21,8 +21,6 @@ pub record Sound (l : Limits) : Type 0 where
   -- the longest stream fits the most blocks, and a block's number its two bytes
   pub stream-fits : 6 + 4 * l .operations + l .steps ≤ most-stream l
   pub blocks-fit : l .blocks < 65536
-  -- behind the most records there is room for another one: a run that looks for an operation past the last finds bytes there
-  pub behind-fits : 6 + 4 * l .operations + 4 ≤ most-stream l
   -- a run has a place for each process, a row for each operation and a cell for each step
   pub places : l .processes ≤ field .processes
   pub rows : l .operations ≤ field .operations

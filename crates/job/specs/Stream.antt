@@ -2,8 +2,9 @@
 -- to 3 operations N, 1 to 256; bytes 4 to 5 schedule length S, 0 to 16,384; N records of 4 bytes, operation 1 first and so on in
 -- order: process 0 to P − 1, action (1 put, 2 take), value in mm in 2 bytes (0 for a take); S bytes, each a process".
 -- Operations and steps count from 1, processes from 0.
-use Prim.Native.Nat.{ℕ, _+_, _*_}
+use Prim.Native.Nat.{ℕ, _+_, _*_, _≤_, _<_}
 use mathlib.Core.List.{List}
+use lib.ListN.{length}
 use Rattle.basics.specs.Maps.{at}
 use Rattle.basics.specs.Words.{word}
 
@@ -46,3 +47,8 @@ scheduled s k = at s (5 + 4 * operations s + k)
 -- "Length is L = 6 + 4 × N + S"
 unfoldable pub stream-length : List ℕ → ℕ
 stream-length s = 6 + 4 * operations s + schedule-length s
+
+-- operation `o` has a record, and its four bytes are there
+pub record HasRecord (s : List ℕ) (o : ℕ) : Type 0 where
+  pub one : o ≤ operations s
+  pub there : record-at o + 3 < length s

@@ -10,7 +10,7 @@ ghost use Rattle.job.specs.Limits.{field, most-file, most-stream, Sound}
 ghost use Rattle.job.specs.Kind.{kind-of};
 ghost use Rattle.job.specs.Slot.{slot-of, process-of, is-drop};
 ghost use Rattle.job.specs.Job.{job-of, heading-of};
-ghost use Rattle.job.specs.Stream.{kind, processes, operations, schedule-length, stream-length, record-at, action};
+ghost use Rattle.job.specs.Stream.{kind, processes, operations, schedule-length, stream-length, record-at, action, HasRecord};
 ghost use Rattle.job.specs.Refusals.{first-met, outside, exact-count, bad-record, bad-records, bad-schedule, bad-padding, header-conditions, list-conditions};
 
 // An operation's number; operations count from 1, and 0 is none.
@@ -197,7 +197,7 @@ fn record_at(o: Operation) -> usize
 
 // The process that does an operation.
 pub fn owner(s: &[u8], o: Operation) -> Process
-    requires { ⌜ record-at (o .0) + 3 < length (now s) ⌝ }
+    requires { ⌜ HasRecord (now s) (o .0) ⌝ }
     ensures { λ r. ⌜ r .0 ≡ job-of (now (s .entry)) .owner (o .0) ⌝ }
 {
     let place = record_at(o);
@@ -206,7 +206,7 @@ pub fn owner(s: &[u8], o: Operation) -> Process
 
 // What an operation does: 1 put, 2 take.
 fn action(s: &[u8], o: Operation) -> u8
-    requires { ⌜ record-at (o .0) + 3 < length (now s) ⌝ }
+    requires { ⌜ HasRecord (now s) (o .0) ⌝ }
     ensures { λ r. ⌜ r ≡ action (now (s .entry)) (o .0) ⌝ }
 {
     let place = record_at(o);
@@ -215,7 +215,7 @@ fn action(s: &[u8], o: Operation) -> u8
 
 // Is an operation a put?
 pub fn is_put(s: &[u8], o: Operation) -> bool
-    requires { ⌜ record-at (o .0) + 3 < length (now s) ⌝ }
+    requires { ⌜ HasRecord (now s) (o .0) ⌝ }
     ensures { λ r. ⌜ r ≡ job-of (now (s .entry)) .is-put (o .0) ⌝ }
 {
     action(s, o) == 1
@@ -223,7 +223,7 @@ pub fn is_put(s: &[u8], o: Operation) -> bool
 
 // The value field of an operation.
 pub fn value(s: &[u8], o: Operation) -> u16
-    requires { ⌜ record-at (o .0) + 3 < length (now s) ⌝ }
+    requires { ⌜ HasRecord (now s) (o .0) ⌝ }
     ensures { λ r. ⌜ r ≡ job-of (now (s .entry)) .field (o .0) ⌝ }
 {
     let place = record_at(o);
@@ -231,14 +231,14 @@ pub fn value(s: &[u8], o: Operation) -> u16
 }
 
 // Where the schedule of so many operations stands: the entry of step k is k bytes further.
-fn schedule_at(count: u16) -> usize
+pub fn schedule_at(count: u16) -> usize
     ensures { λ r. ⌜ r ≡ 5 + 4 * count ⌝ }
 {
     5 + 4 * (count as usize)
 }
 
 // What an entry of the schedule names. Document 02: "A schedule entry 128 + p is a numbered step in which process p drops".
-fn slot_of(entry: u8) -> Slot
+pub fn slot_of(entry: u8) -> Slot
     ensures { λ r. ⌜ r ≡ slot-of entry ⌝ }
 {
     if entry < 128 {
@@ -323,7 +323,7 @@ pub fn header(limits: Limits, s: &[u8]) -> u8
 
 // Is the record of an operation out of range?
 fn bad_record(s: &[u8], o: Operation) -> bool
-    requires { ⌜ (1 ≤ o .0) × (record-at (o .0) + 3 < length (now s)) ⌝ }
+    requires { ⌜ (1 ≤ o .0) × HasRecord (now s) (o .0) ⌝ }
     ensures { λ r. ⌜ r ≡ bad-record (now (s .entry)) (o .0) ⌝ }
 {
     if owner(s, o).0 >= processes(s) {

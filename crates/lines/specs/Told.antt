@@ -1,12 +1,11 @@
 -- The line of an operation, by the cells of its row.
-use Prim.Native.Nat.{ℕ, _+_, _<_}
+use Prim.Native.Nat.{ℕ}
 use mathlib.Core.List.{List, _++_}
-use lib.ListN.{length}
 use Rattle.basics.specs.Choice.{pick, same}
 use Rattle.basics.specs.Text.{text, decimal}
 use Rattle.rows.specs.Operations.{HasOps, Cells, cells, dropped-mark}
 use Rattle.rows.specs.Operations.Column.{First, Last, Link, Taken}
-use Rattle.job.specs.Stream.{record-at}
+use Rattle.job.specs.Stream.{HasRecord}
 use Rattle.job.specs.Job.{Job}
 use Rattle.machine.specs.Notes.{Answer}
 use Rattle.wording.specs.Report.{action-text, answer-text}
@@ -19,8 +18,8 @@ said link item = pick (same link 0) (pick (same item 0) Answer.empty (Answer.ite
 -- an operation has a row, and its record and its item's are in the stream
 pub record InStream (stream ops : List ℕ) (o : ℕ) : Type 0 where
   pub row : HasOps o ops
-  pub its-record : record-at o + 3 < length stream
-  pub item-record : record-at (cells ops Taken o) + 3 < length stream
+  pub its-record : HasRecord stream o
+  pub item-record : HasRecord stream (cells ops Taken o)
 
 -- the front of an operation's line: `op 1 process 0 put 50`
 unfoldable pub front-text : Job → ℕ → List ℕ

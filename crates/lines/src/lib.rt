@@ -19,7 +19,7 @@ ghost use Rattle.text.specs.Laid.{Wrote};
 ghost use Rattle.rows.specs.Operations.{cells};
 ghost use Rattle.rows.specs.Operations.Column.{Taken};
 ghost use Rattle.rows.specs.Nodes.{HasNodes, marks};
-ghost use Rattle.job.specs.Stream.{record-at};
+ghost use Rattle.job.specs.Stream.{HasRecord};
 ghost use Rattle.job.specs.Job.{job-of};
 ghost use Rattle.machine.specs.Notes.{Answer};
 ghost use Rattle.wording.specs.Report.{object-line, action-text, answer-text, spaced, record-lines, left-line};
@@ -57,7 +57,7 @@ pub fn object_line(out: &mut [u8], at: usize, kind: Kind) -> usize
 
 // `put` with its value, or `take`.
 fn put_action(out: &mut [u8], at: usize, stream: &[u8], o: Operation) -> usize
-    requires { ⌜ (record-at (o .0) + 3 < length (now stream)) × (at + length (action-text (job-of (now stream)) (o .0)) ≤ length (now out)) ⌝ }
+    requires { ⌜ HasRecord (now stream) (o .0) × (at + length (action-text (job-of (now stream)) (o .0)) ≤ length (now out)) ⌝ }
     ensures { λ r. ⌜ Wrote (now (out .entry)) (now (out .exit)) at r (action-text (job-of (now (stream .entry))) (o .0)) ⌝ }
 {
     if is_put(stream, o) {
@@ -68,7 +68,7 @@ fn put_action(out: &mut [u8], at: usize, stream: &[u8], o: Operation) -> usize
 
 // `item` with its number and its value.
 fn put_item(out: &mut [u8], at: usize, stream: &[u8], item: Operation) -> usize
-    requires { ⌜ (record-at (item .0) + 3 < length (now stream)) × (at + length (answer-text (job-of (now stream)) (Answer.item (item .0))) ≤ length (now out)) ⌝ }
+    requires { ⌜ HasRecord (now stream) (item .0) × (at + length (answer-text (job-of (now stream)) (Answer.item (item .0))) ≤ length (now out)) ⌝ }
     ensures { λ r. ⌜ Wrote (now (out .entry)) (now (out .exit)) at r (answer-text (job-of (now (stream .entry))) (Answer.item (item .0))) ⌝ }
 {
     let next = put_labelled(out, at, b" item ", item.0);
@@ -121,7 +121,7 @@ fn put_progress(out: &mut [u8], at: usize, stream: &[u8], ops: &[u16], o: Operat
 
 // The front of an operation's line: its number, its process and what it does.
 fn put_front(out: &mut [u8], at: usize, stream: &[u8], o: Operation) -> usize
-    requires { ⌜ (record-at (o .0) + 3 < length (now stream)) × (at + length (front-text (job-of (now stream)) (o .0)) ≤ length (now out)) ⌝ }
+    requires { ⌜ HasRecord (now stream) (o .0) × (at + length (front-text (job-of (now stream)) (o .0)) ≤ length (now out)) ⌝ }
     ensures { λ r. ⌜ Wrote (now (out .entry)) (now (out .exit)) at r (front-text (job-of (now (stream .entry))) (o .0)) ⌝ }
 {
     let next = put_labelled(out, at, b"op ", o.0);

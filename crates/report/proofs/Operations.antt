@@ -10,7 +10,7 @@ use Rattle.basics.specs.Text.{text, decimal}
 use Rattle.basics.proofs.Choice.{split}
 use Rattle.rows.specs.Operations.{HasOps, Cells, cells, dropped-mark}
 use Rattle.rows.specs.Operations.Column.{First, Last, Link, Taken}
-use Rattle.job.specs.Stream.{record-at, stream-length}
+use Rattle.job.specs.Stream.{record-at, stream-length, HasRecord}
 use Rattle.job.specs.Job.{Job, job-of}
 use Rattle.machine.specs.Notes.{note}
 use Rattle.machine.specs.Journal.{first, last, taken, answer}
@@ -62,9 +62,9 @@ module _ (j : Job) (k : ℕ) {c : Cells} (h : Agrees j k c) (o : ℕ) (op : IsOp
     unfolding line-told front-text operation-line
     line-is = ap (λ (l : List ℕ). front-text j o ++ l ++ text "\n") progress-is
 
-record-within : (s : List ℕ) (o : ℕ) → stream-length s ≤ length s → o ≤ job-of s .count → record-at o + 3 < length s
+record-within : (s : List ℕ) (o : ℕ) → stream-length s ≤ length s → o ≤ job-of s .count → HasRecord s o
 unfolding stream-length record-at job-of
-record-within s o whole h = omega arith
+record-within s o whole h = record { one = h; there = omega arith }
 
 -- an operation of the stream's job
 pub in-stream : (s ops : List ℕ) {count : ℕ} → stream-length s ≤ length s → count ≡ job-of s .count → HasOps count ops → Agrees (job-of s) (job-of s .steps) (cells ops) → (o : ℕ) → 1 ≤ o → o ≤ count → InStream s ops o

@@ -11,7 +11,6 @@ use Rattle.rows.specs.Operations.{Cells, cells, stored, dropped-mark}
 use Rattle.rows.specs.Operations.Column.{First, Last}
 use Rattle.job.specs.declared.Process.{Process}
 use Rattle.job.specs.declared.Slot.the-variants.{Drops}
-use Rattle.job.specs.Limits.{field}
 use Rattle.job.specs.Job.{Job}
 use Rattle.machine.specs.declared.Place.{Place}
 use Rattle.machine.specs.Run.{State, before, operation-after, state-after}
@@ -23,7 +22,7 @@ use Rattle.theory.proofs.Operations.Hands.{Idling}
 use Rattle.theory.proofs.Operations.Drops.{begun-first}
 use Rattle.journal.specs.Journal.{Agrees, Holds}
 use Rattle.journal.proofs.Whole.{holds-drops}
-use Rattle.run.specs.Promise.{InPlace, Ran}
+use Rattle.run.specs.Promise.{run-places, InPlace, Ran}
 use Rattle.run.proofs.Turned.{places-set}
 
 -- rows that say the same hold the same journal
@@ -61,7 +60,7 @@ module _ (j : Job) (k : ℕ) (p : Process) (named : j .slot (suc k) ≡ Drops p)
                 (drops-one j k p named (begun-is begun)) (r .journal) e;
           }
 
-      pub places-drop : (places : List Place) (after : Place) → p .0 < field .processes → InPlace j k places → after ≡ before j (operation-after j (p .0) held) → InPlace j (suc k) (set places (p .0) after)
+      pub places-drop : (places : List Place) (after : Place) → p .0 < run-places → InPlace j k places → after ≡ before j (operation-after j (p .0) held) → InPlace j (suc k) (set places (p .0) after)
       places-drop places after in-range l e =
           places-set j k places (p .0) after in-range l
           (ap (λ (s : State). s .places) (state-drops j k p named (begun-is begun)) ∙ ap (upd (state-after j k .places) (p .0)) (sym e))

@@ -18,7 +18,6 @@ use Rattle.job.specs.declared.Heading.{Heading}
 use Rattle.job.specs.declared.Process.{Process}
 use Rattle.job.specs.declared.Slot.{Slot}
 use Rattle.job.specs.declared.Slot.the-variants.{Acts, Drops}
-use Rattle.job.specs.Limits.{field}
 use Rattle.job.specs.Slot.{process-of, is-drop}
 use Rattle.job.specs.Job.{Job, job-of}
 use Rattle.job.proofs.Slots.{slot-acts, slot-drops}
@@ -40,7 +39,7 @@ use Rattle.step.specs.declared.Stepped.{Stepped}
 use Rattle.step.specs.Promise.{IsStep, event-at}
 use Rattle.journal.specs.Journal.{held}
 use Rattle.journal.specs.Stored.{Stored}
-use Rattle.run.specs.Promise.{Runnable, Room, AllBlank, Ran, InPlace, nowhere, still, working, TurnLeaves, Makes}
+use Rattle.run.specs.Promise.{Runnable, run-places, Room, AllBlank, Ran, InPlace, nowhere, still, working, TurnLeaves, Makes}
 use Rattle.run.specs.Promise.DropLeaves.{waits, drops}
 use Rattle.run.specs.Promise.TurnLeaves.{stepped, dropped}
 use Rattle.run.proofs.Bounds.{its-count, few, short, entry-in-range}
@@ -102,7 +101,7 @@ finished {stream} {job} {k} {head = head} {tail = tail} {top = top} {nodes = nod
     subst (λ x. Ran (job-of stream) x head tail top nodes ops by) e (t .ran)
 
 -- the place that the code takes out
-place-within : {j : Job} {k p : ℕ} {places : List Place} → InPlace j k places → p < field .processes → PlaceWithin (j .count) (getD places p nowhere)
+place-within : {j : Job} {k p : ℕ} {places : List Place} → InPlace j k places → p < run-places → PlaceWithin (j .count) (getD places p nowhere)
 place-within {j} {k} {p} l h = subst (PlaceWithin (j .count)) (sym (l .each p h)) (within j k .place p)
 
 module _ {stream : List ℕ} {job : Heading} (r : Runnable stream job) {k : ℕ} {places : List Place} {total head tail top : ℕ} {nodes₀ ops₀ by₀ nodes ops by : List ℕ} (t : Turning stream job k places total head tail top nodes₀ ops₀ by₀ nodes ops by) (more : k < job .steps) {slot : Slot} (slot-is : slot ≡ job-of stream .slot (k + 1)) (p : ℕ) (process-is : p ≡ process-of slot) where
@@ -119,11 +118,11 @@ module _ {stream : List ℕ} {job : Heading} (r : Runnable stream job) {k : ℕ}
   p-is : p ≡ process
   p-is = process-is ∙ ap process-of named
 
-  process-in-range : process < field .processes
+  process-in-range : process < run-places
   process-in-range = entry-in-range r (suc k) (omega arith) more
 
-  pub p-in-range : p < field .processes
-  p-in-range = subst (λ x. x < field .processes) (sym p-is) process-in-range
+  pub p-in-range : p < run-places
+  p-in-range = subst (λ x. x < run-places) (sym p-is) process-in-range
 
   its-place : place ≡ state-after (job-of stream) k .places process
   its-place = ap (λ x. getD places x nowhere) p-is ∙ t .in-place .each process process-in-range
@@ -202,7 +201,7 @@ module _ {stream : List ℕ} {job : Heading} (r : Runnable stream job) {k : ℕ}
   -- one that has operations is among those counted
   pub counted-in : place .operation .0 ≤ job .count → 1 ≤ total
   counted-in h =
-      omega (arith, t .counted, working-has (job .count) places p (subst (λ n. p < n) (sym (t .in-place .eight)) p-in-range), still-has (job .count) (place .operation .0) h)
+      omega (arith, t .counted, working-has (job .count) places p (subst (λ n. p < n) (sym (t .in-place .whole)) p-in-range), still-has (job .count) (place .operation .0) h)
 
   module _ (steps : is-drop slot ≡ false) {s : Stepped} {nodes′ : List ℕ} (acts : place .operation .0 ≤ job .count) (is : IsStep place head tail top nodes s nodes′) where
     turning-acts : {ops′ by′ : List ℕ} (after : Place) {total′ : ℕ} → Stored (event-at place head tail top nodes) (ended (s .row)) (is-return (s .row)) (place .operation .0) (k + 1) ops by ops′ by′ → after ≡ followed (job-of stream) p (place .operation) s → total′ ≡ total - 1 + still (job .count) (after .operation .0) → SameLengths nodes ops by nodes′ ops′ by′ → Turning stream job (k + 1) (set places p after) total′ (s .head) (s .tail) (s .top) nodes₀ ops₀ by₀ nodes′ ops′ by′
@@ -216,7 +215,7 @@ module _ {stream : List ℕ} {job : Heading} (r : Runnable stream job) {k : ℕ}
               (followed-place j k own acts-named after (made-from (t .ran .memory) real)
               (subst (λ (x : ℕ × Place). after ≡ followed j (x .0) (x .1 .operation) s) (λ i. (p-is i, its-place i)) f)));
           counted =
-              omega (arith, t .counted, counted-in acts, counts, working-set (job .count) places p after (subst (λ n. p < n) (sym (t .in-place .eight)) p-in-range), still-has (job .count) (place .operation .0) acts);
+              omega (arith, t .counted, counted-in acts, counts, working-set (job .count) places p after (subst (λ n. p < n) (sym (t .in-place .whole)) p-in-range), still-has (job .count) (place .operation .0) acts);
           ran =
               ran-acts j k own acts-named (awake acts) (t .ran) real
               (subst (λ (x : ℕ × Place). Stored (event-at (x .1) head tail top nodes) (ended (s .row)) (is-return (s .row)) (x .1 .operation .0) (x .0) ops by ops′ by′) (λ i. (add-one k i, its-place i)) stored);
@@ -276,7 +275,7 @@ module _ {stream : List ℕ} {job : Heading} (r : Runnable stream job) {k : ℕ}
           in-place = subst (λ x. InPlace j (suc k) (set places x after)) (sym p-is) (places-stay j k idling places process after process-in-range (t .in-place) (stays ∙ its-place));
           counted =
               (let here : still (job .count) (after .operation .0) ≡ still (job .count) (place .operation .0) = ap (λ (x : Place). still (job .count) (x .operation .0)) stays in
-              omega (arith, t .counted, working-set (job .count) places p after (subst (λ n. p < n) (sym (t .in-place .eight)) p-in-range)));
+              omega (arith, t .counted, working-set (job .count) places p after (subst (λ n. p < n) (sym (t .in-place .whole)) p-in-range)));
           ran = ran-idles j k idling (record { memory = t .ran .memory; journal = holds-same rows (t .ran .journal) });
           lengths = record { of-nodes = t .lengths .of-nodes; of-ops = kept ∙ t .lengths .of-ops; of-by = t .lengths .of-by };
         })
@@ -298,7 +297,7 @@ module _ {stream : List ℕ} {job : Heading} (r : Runnable stream job) {k : ℕ}
               (places-drop j k own drops-named held-in (t .ran) (its-first begun) places after process-in-range (t .in-place)
               (subst (λ (x : ℕ × Place). after ≡ before j (operation-after j (x .0) (x .1 .operation .0))) (λ i. (p-is i, its-place i)) next));
           counted =
-              omega (arith, t .counted, counted-in has, counts, working-set (job .count) places p after (subst (λ n. p < n) (sym (t .in-place .eight)) p-in-range), still-has (job .count) (place .operation .0) has);
+              omega (arith, t .counted, counted-in has, counts, working-set (job .count) places p after (subst (λ n. p < n) (sym (t .in-place .whole)) p-in-range), still-has (job .count) (place .operation .0) has);
           ran = ran-drops j k own drops-named held-in (t .ran) (its-first begun) (subst (λ x. cells ops′ ≡ stored Last (x .operation .0) dropped-mark (cells ops)) its-place stores);
           lengths = record { of-nodes = t .lengths .of-nodes; of-ops = kept ∙ t .lengths .of-ops; of-by = t .lengths .of-by };
         })

@@ -11,7 +11,6 @@ use Rattle.basics.specs.Choice.{pick}
 use Rattle.basics.specs.Maps.{upd}
 use Rattle.basics.proofs.Choice.{both, split, less-lt, pick-then, pick-else}
 use Rattle.basics.proofs.Maps.{upd-here, upd-there, upd-id}
-use Rattle.job.specs.Limits.{field}
 use Rattle.job.specs.declared.Operation as Machine
 use Rattle.job.specs.declared.Process.{Process}
 use Rattle.job.specs.declared.Slot.{Slot}
@@ -35,7 +34,7 @@ use Rattle.step.specs.declared.Stepped.{Stepped}
 use Rattle.step.specs.Promise.{IsStep, event-at}
 use Rattle.journal.specs.Stored.{Stored}
 use Rattle.journal.proofs.Whole.{holds-idle, holds-acts}
-use Rattle.run.specs.Promise.{nowhere, InPlace, Ran}
+use Rattle.run.specs.Promise.{nowhere, run-places, InPlace, Ran}
 
 -- the step of a place, from memory and with the answer of the code, as the definition has it
 pub record Made (place : Place) (m m′ : Memory) (s : Stepped) : Type 0 where
@@ -78,7 +77,7 @@ module _ (j : Job) (k : ℕ) where
       }
 
   pub places-idle : {places : List Place} → Idling j k → InPlace j k places → InPlace j (suc k) places
-  places-idle i l = record { eight = l .eight; each = λ p h. l .each p h ∙ ap (λ (s : State). s .places p) (sym (i .state)) }
+  places-idle i l = record { whole = l .whole; each = λ p h. l .each p h ∙ ap (λ (s : State). s .places p) (sym (i .state)) }
 
   -- nothing happens where the process that is named has no operation remaining, whether it is to step or to drop
   pub rest-idles : resting j (state-after j k .places (process-of (j .slot (suc k)))) ≡ true → Idling j k
@@ -99,23 +98,23 @@ module _ (j : Job) (k : ℕ) where
           record { state = state-stays j k p named (none-begun p e); said = note-drops j k p named; drops-none = drops-none j k p named (none-begun p e) }
 
 -- a place that is stored where the definition has it
-pub places-set : (j : Job) (k : ℕ) (places : List Place) (p : ℕ) (q : Place) → p < field .processes → InPlace j k places → state-after j (suc k) .places ≡ upd (state-after j k .places) p q → InPlace j (suc k) (set places p q)
+pub places-set : (j : Job) (k : ℕ) (places : List Place) (p : ℕ) (q : Place) → p < run-places → InPlace j k places → state-after j (suc k) .places ≡ upd (state-after j k .places) p q → InPlace j (suc k) (set places p q)
 places-set j k places p q in-range l e =
-    record { eight = length-set places p q ∙ l .eight; each = λ r h. go r h (split r p) }
+    record { whole = length-set places p q ∙ l .whole; each = λ r h. go r h (split r p) }
   where
     now : (r : ℕ) → state-after j (suc k) .places r ≡ upd (state-after j k .places) p q r
     now r = ap (λ (f : ℕ → Place). f r) e
 
-    go : (r : ℕ) → r < field .processes → (r ≡ p) ⊎ (r ≢ p) → getD (set places p q) r nowhere ≡ state-after j (suc k) .places r
+    go : (r : ℕ) → r < run-places → (r ≡ p) ⊎ (r ≢ p) → getD (set places p q) r nowhere ≡ state-after j (suc k) .places r
     go r h (inl here) =
         subst (λ x. getD (set places p q) x nowhere ≡ state-after j (suc k) .places x) (sym here)
-        (getD-set-same places p q nowhere (subst (λ n. p < n) (sym (l .eight)) in-range)
+        (getD-set-same places p q nowhere (subst (λ n. p < n) (sym (l .whole)) in-range)
         ∙ sym (now p ∙ upd-here _ p _))
     go r h (inr there) =
         getD-set-other places p r q nowhere there ∙ l .each r h ∙ sym (now r ∙ upd-there _ p _ there)
 
 -- the same place, where nothing happens
-pub places-stay : (j : Job) (k : ℕ) → Idling j k → (places : List Place) (p : ℕ) (q : Place) → p < field .processes → InPlace j k places → q ≡ state-after j k .places p → InPlace j (suc k) (set places p q)
+pub places-stay : (j : Job) (k : ℕ) → Idling j k → (places : List Place) (p : ℕ) (q : Place) → p < run-places → InPlace j k places → q ≡ state-after j k .places p → InPlace j (suc k) (set places p q)
 places-stay j k i places p q in-range l e =
     places-set j k places p q in-range l
     (ap (λ (s : State). s .places) (i .state) ∙ sym (upd-id (state-after j k .places) p) ∙ ap (upd (state-after j k .places) p) (sym e))
@@ -157,7 +156,7 @@ module _ (j : Job) (k : ℕ) (p : Process) (named : j .slot (suc k) ≡ Acts p) 
         n = made .registers i .n;
       }))
 
-  pub places-act : (places : List Place) (q : Place) → resting j place ≡ false → p .0 < field .processes → InPlace j k places → q ≡ place-after j (p .0) place a → InPlace j (suc k) (set places (p .0) q)
+  pub places-act : (places : List Place) (q : Place) → resting j place ≡ false → p .0 < run-places → InPlace j k places → q ≡ place-after j (p .0) place a → InPlace j (suc k) (set places (p .0) q)
   places-act places q e in-range l f =
       places-set j k places (p .0) q in-range l (ap (λ (s : State). s .places) (state-acts j k p named e) ∙ ap (upd (state-after j k .places) (p .0)) (sym f))
 

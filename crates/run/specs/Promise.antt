@@ -34,10 +34,14 @@ pub record Runnable (stream : List ℕ) (job : Heading) : Type 0 where
 abbrev pub nowhere : Place
 nowhere = record { operation = record { 0 = 0 }; row = Q1; h = 0; t = 0; n = 0 }
 
--- the eight places are those of the definition after k steps
+-- "The eight places, one a process"; and behind them one for nobody, who is named for an idle step
+abbrev pub run-places : ℕ
+run-places = field .processes + 1
+
+-- the places are those of the definition after k steps
 pub record InPlace (j : Job) (k : ℕ) (places : List Place) : Type 0 where
-  pub eight : length places ≡ field .processes
-  pub each : (p : ℕ) → p < field .processes → getD places p nowhere ≡ state-after j k .places p
+  pub whole : length places ≡ run-places
+  pub each : (p : ℕ) → p < run-places → getD places p nowhere ≡ state-after j k .places p
 
 -- 1 for a process at operation o of so many, and 0 for one past the last
 unfoldable pub still : ℕ → ℕ → ℕ

@@ -24,7 +24,6 @@ use table::has_ended;
 ghost use mathlib.Core.Path.{_≡_};
 ghost use Prim.Native.Nat.{_+_, _-_, _≤_};
 ghost use lib.ListN.{length};
-ghost use Rattle.job.specs.Limits.{field};
 ghost use Rattle.job.specs.Job.{«job-of»};
 ghost use Rattle.machine.specs.Memory.{fresh-memory};
 ghost use Rattle.machine.specs.Table.{ended, is-return};
@@ -35,11 +34,15 @@ ghost use Rattle.machine.specs.Idle.{IdleBehind};
 ghost use Rattle.step.specs.Promise.{IsStep, «event-at»};
 ghost use Rattle.journal.specs.Stored.{Stored};
 ghost use Rattle.rows.specs.Operations.{HasOps};
-ghost use Rattle.run.specs.Promise.{Runnable, InPlace, still, working, DropLeaves, TurnLeaves, Makes, Room, AllBlank, Ran};
+ghost use Rattle.run.specs.Promise.{Runnable, run-places, InPlace, still, working, DropLeaves, TurnLeaves, Makes, Room, AllBlank, Ran};
 
-// The run state: "The eight places, one a process, go from step to step together".
+// The run state: "The eight places, one a process, go from step to step together"; and one for nobody, who is named for an idle step.
 pub struct Run {
-    pub places: [Place; Limits::PROCESSES],
+    pub places: [Place; Run::PLACES],
+}
+
+impl Run {
+    pub const PLACES: usize = Limits::PROCESSES + 1;
 }
 
 // The cells of an object that are no node's.
@@ -78,19 +81,25 @@ fn place_after(stream: &[u8], job: Heading, p: Process, o: Operation) -> Place
 {
     let object = job.object;
     let q = next_operation(stream, job.count, p, o);
-    begin(stream, object, q)
+    begin(stream, object, job.count, q)
 }
 
-// Every process before its first operation.
+// Every process before its first operation, and nobody past the last one.
 fn line_up(stream: &[u8], job: Heading) -> Run
     requires { ⌜ Runnable (now stream) job ⌝ }
     ensures { λ r. ⌜ InPlace (job-of (now (stream .entry))) 0 (r .places) ⌝ }
 {
-    let first = place_after(stream, job, Process(0), Operation(0));
+    let count = job.count;
+    let nobody = place_after(
+        stream,
+        job,
+        Process(Limits::PROCESSES as u8),
+        Operation(count),
+    );
     let mut run = Run {
-        places: [first; Limits::PROCESSES],
+        places: [nobody; Run::PLACES],
     };
-    let mut p: usize = 1;
+    let mut p: usize = 0;
     while p < Limits::PROCESSES {
         let place = place_after(stream, job, Process(p as u8), Operation(0));
         run.places[p] = place;
@@ -101,12 +110,12 @@ fn line_up(stream: &[u8], job: Heading) -> Run
 
 // How many processes still have operations?
 fn working(run: Run, count: u16) -> u8
-    requires { ⌜ length (run .places) ≡ field .processes ⌝ }
+    requires { ⌜ length (run .places) ≡ run-places ⌝ }
     ensures { λ r. ⌜ r ≡ working count (run .places) ⌝ }
 {
     let mut total: u8 = 0;
     let mut p: usize = 0;
-    while p < Limits::PROCESSES {
+    while p < Run::PLACES {
         let place = run.places[p];
         let o = place.operation;
         p += 1;

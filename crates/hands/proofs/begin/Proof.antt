@@ -9,8 +9,8 @@ use Rattle.hands.proofs.begin.Tie as tie
 returns : tie.Need-returns
 unfolding before
 returns c =
-    let of = c .before .before .before .pre .1 in
-    let row = c .first-row .ensures ∙ (λ i. first-row (of i) (c .before .is-put .ensures i)) in
+    let of = c .before .before .before .pre .2 in
+    let row = c .first-row .ensures ∙ (λ i. first-row (of i) (c .before .puts .ensures i)) in
     λ i. record { operation = c .before .before .before .args .o; row = row i; h = 0; t = 0; n = 0 }
 
 pub begin-spec : {M : Type 1} → statement M

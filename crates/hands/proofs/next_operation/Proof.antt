@@ -4,8 +4,8 @@ use borrow.Author.Needs.{needs}
 use native.Mathlib.Omega.{arith}
 use mathlib.Core.Path.{_≡_, refl, sym, _∙_}
 use Prim.Native.Nat.{_+_, _-_, _≤_}
-use Rattle.job.specs.Stream.{record-at}
 use Rattle.job.specs.Job.{job-of}
+use Rattle.job.proofs.Recorded.{has-record}
 use Rattle.hands.proofs.Hands.{search-from, search-begins, search-finds, search-passes, search-ends}
 use Rattle.hands.proofs.next_operation.Statement.{statement}
 use Rattle.hands.proofs.next_operation.Tie as tie
@@ -17,8 +17,9 @@ abbrev μ-loop : tie.MeasureT-loop
 μ-loop stream count p i₀ i = (count + 1) - i
 
 owner-requires : tie.Need-owner-requires Inv-loop μ-loop
-unfolding record-at
-owner-requires c κs = omega (arith, c .before .before .before .before .pre)
+owner-requires c κs =
+    let start = c .before .before .before .before in
+    has-record _ (start .pre .0) (start .pre .1) (omega arith)
 
 returns : tie.Need-returns Inv-loop μ-loop
 returns c =

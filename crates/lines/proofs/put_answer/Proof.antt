@@ -1,10 +1,10 @@
 -- `lines::put_answer` meets its contract. Assumes nothing.
-use mathlib.Core.Path.{ap}
+use mathlib.Core.Path.{sym, ap, subst}
 use native.Mathlib.Omega.{arith}
 use borrow.Author.Needs.{needs}
 use lib.ListN.{length}
 use Rattle.basics.specs.Text.{text}
-use Rattle.job.specs.Stream.{record-at}
+use Rattle.job.specs.Stream.{HasRecord}
 use Rattle.job.specs.Job.{job-of}
 use Rattle.text.proofs.Laid.{wrote-as}
 use Rattle.lines.proofs.Pieces.{answer-of-link, answer-of-empty, answer-of-item}
@@ -14,7 +14,7 @@ use Rattle.lines.proofs.put_answer.Tie as tie
 put-item-requires : tie.Need-put-item-requires
 put-item-requires c κs =
     let item = c .before .before .cell2 .ensures in
-    (omega (arith, ap record-at item), omega (arith, ap length (answer-of-item (job-of (c .before .before .before .before .before .before .before .before .args .stream .now)) _ _ (omega arith) item (search needs))))
+    (subst (HasRecord _) (sym item) (c .before .before .before .before .before .before .before .before .pre .0 .item-record), omega (arith, ap length (answer-of-item (job-of (c .before .before .before .before .before .before .before .before .args .stream .now)) _ _ (omega arith) item (search needs))))
 
 pub put-answer-spec : {M : Type 1} → statement M
 unfolding text

@@ -115,7 +115,7 @@ returns d =
     let turned =
     turning-over (here .before .before .before .before .before .before .before .before .before .before .before .pre .0) (here .before .before .before .loop .inv) (here .before .before .loop-test .taken) (here .before .scheduled .ensures) _ (here .process-of .ensures) (c .before .before .place-after .result) (made .take-turn .ensures) (c .before .before .before .if2 .taken) (c .before .before .before .before .before .before .before .before .before .before .before .before .before .before .before .if1 .left)
     (c .before .before .place-after .ensures) (c .before .working-on .ensures) (record { of-nodes = kept .0; of-ops = kept .1 .0; of-by = kept .1 .1 .0 }) in
-    let rest = each-rests _ _ (turned .in-place .eight) (sym (turned .counted) ∙ c .if3 .taken) in
+    let rest = each-rests _ _ (turned .in-place .whole) (sym (turned .counted) ∙ c .if3 .taken) in
     let ran = ran-to-end (here .before .before .before .before .before .before .before .before .before .before .before .pre .0) turned rest in
     (ran, (idle-behind (here .before .before .before .before .before .before .before .before .before .before .before .pre .0) turned rest, d .lost-rounds .ensures ∙ ran .journal .rounds))
 
@@ -158,7 +158,7 @@ pub run-all-spec : {M : Type 1} → statement M
 run-all-spec =
     tie.close
     (tie.spec
-    Inv-loop μ-loop (λ c κs. c .before .before .before .before .pre .0) (λ c κs. c .line-up .ensures .eight) (λ c κs. search needs) loop-holds add-k scheduled-requires
+    Inv-loop μ-loop (λ c κs. c .before .before .before .before .pre .0) (λ c κs. c .line-up .ensures .whole) (λ c κs. search needs) loop-holds add-k scheduled-requires
     (λ c κs. tt) cast-i mul-place element-copy-out-place (λ c. omega (arith, c .before .before .before .before .before .before .before .loop-test .taken)) loop-again take-turn-requires
     place-after-requires mul-after element-set-from-after working-on-requires lost-rounds-requires same-length same-length-2 same-length-3 returns
     (λ c. omega (arith, c .before .before .before .before .before .before .before .before .before .before .before .before .before .before .before .before .before .before .before .before .before .before .loop-test .taken)) loop-again-2

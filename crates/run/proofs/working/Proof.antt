@@ -5,16 +5,16 @@ use Prim.Native.Nat.{_+_, _-_, _≤_}
 use native.Mathlib.Omega.{arith}
 use lib.ListN.{drop}
 use Rattle.run.specs.Promise as Promise
-use Rattle.job.specs.Limits.{field}
+use Rattle.run.specs.Promise.{run-places}
 use Rattle.run.proofs.Places.{counted-none, counted-one, counted-all}
 use Rattle.run.proofs.working.Statement.{statement}
 use Rattle.run.proofs.working.Tie as tie
 
 abbrev Inv-loop : tie.InvT-loop
-Inv-loop count run total₀ p₀ total p = (p ≤ field .processes) × (total ≤ p) × (total + Promise.working count (drop p (run .places)) ≡ Promise.working count (run .places))
+Inv-loop count run total₀ p₀ total p = (p ≤ run-places) × (total ≤ p) × (total + Promise.working count (drop p (run .places)) ≡ Promise.working count (run .places))
 
 abbrev μ-loop : tie.MeasureT-loop
-μ-loop count run total₀ p₀ total p = field .processes - p
+μ-loop count run total₀ p₀ total p = run-places - p
 
 loop-again : tie.Need-loop-again Inv-loop μ-loop
 loop-again c =
