@@ -17,3 +17,5 @@ pub mod Stack
 pub mod TwoWay
 pub mod Theorem
 pub mod Lost
+pub mod Nobody
+pub mod Cut

@@ -1,2 +1,3 @@
--- What demand 3's theory says of lost rounds.
+-- What the theory says beside demand 3: of lost rounds, and of entries cut out.
 pub mod Bounded
+pub mod Cut
