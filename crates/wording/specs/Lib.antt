@@ -1,3 +1,4 @@
--- The report as text, and the table of traces.
+-- The report as text, and the tables of traces.
 pub mod Report
+pub mod WindowTraces
 pub mod Traces

@@ -36,6 +36,19 @@ use Rattle.machine.specs.Left.{walk, left-in, left}
 use Rattle.machine.specs.Explained.{put-lines}
 use Rattle.machine.specs.Lost.{tally, lost}
 use Rattle.theory.specs.Bounded.{puts, late-drop, late-drops, most-lost}
+use Rattle.block.specs.Checked.{filled}
+use Rattle.job.specs.Idle.{idle-at}
+use Rattle.calendar.specs.Years.{is-leap, year-length, days-of-years}
+use Rattle.calendar.specs.Months.{common-lengths, month-length, days-of-months}
+use Rattle.calendar.specs.Dates.{from-to, is-date, day-number}
+use Rattle.calendar.specs.Weekdays.{weekday-after, weekday-before, weekday}
+use Rattle.windows.specs.Fields.{year, month, day, second, entry-at, weekdays, opening, closing}
+use Rattle.windows.specs.Refused.{bad-start, bad-window, bad-entries, bad-rest, bad-block, no-block, bad-windows}
+use Rattle.windows.specs.Open.{closes, in-window, has-weekday, open-on, since-midnight, day-of, second-of, is-open}
+use Rattle.windows.specs.Windowed.{is-shut, windowed}
+use Rattle.windows.specs.Examples as Blocks
+use Rattle.windows.specs.Examples.{window, windows}
+use Rattle.wording.specs.WindowTraces.{window-traces, booked, promised-booked}
 use Rattle.wording.specs.Report.{object-line, action-text, answer-text, end-text, progress-text, operation-line, operation-lines, spaced, effect-text, record-line, record-lines, lost-line, left-line, report}
 
 -- a job, as its stream, and its whole report
@@ -268,14 +281,20 @@ replayed t = record { number = file-refusal field (file-of (t .job)); text = rep
 unfoldable pub promised : Trace → Replayed
 promised t = record { number = 0; text = text (t .expected) }
 
-pub traces-proved : map replayed traces ≡ map promised traces
-unfolding put take below joined-records header stream traces replayed promised pick same less at upd word word-bytes text digits decimal block-size payload-size summed-size add-byte add-bytes sums block payload-of sum-differs misplaced block-refusal kind-number kinds look-up kind-of is-missing kind-found kind processes operations schedule-length record-at process action value scheduled slot-of process-of stream-length first-met any outside bad-kind bad-processes bad-operations bad-schedule-length exact-count bad-record bad-records bad-entry bad-schedule bad-padding header-conditions list-conditions most-file zeros block-at block-count payloads joined blocks padded file-of bad-length blocks-refusal bad-count stream-refusal file-refusal job-of fresh-memory set-from-to yes-if with-head with-tail with-top with-next with-mark with-upper row table position row-of successor end-of is-end ended is-return first-row have-read have-set access seek operation-after before fresh-state reach registers reached row-after place-after resting acting dropping step state-after answer-at answer-of is-answer event-of is-round is-linked item-of moved-to idle acted note-next note earliest latest made begins-round links joins ends first last answer start link join taken dropped-next dropped drop numbers sift largest takers first-move latest-start takes-at is-empty effect if-at line-at lines-to the-record walk left-in left tally lost millimetres half-way even-one nearest centimetres signed-decimal stage-text object-line action-text answer-text end-text progress-text operation-line operation-lines spaced effect-text record-line record-lines lost-line left-line report
-traces-proved = refl
-
 -- of the last five traces, 2 × (P − 1) × K + D, by hand: the fourth and the fifth lose as much
 unfoldable pub bound-of : Trace → ℕ
 bound-of t = most-lost (job-of (t .job)) (schedule-length (t .job)) (processes (t .job))
 
+-- the three tables, by one computation
+computed : (map replayed traces ≡ map promised traces) × (map bound-of (Lists.drop 31 traces) ≡ 4 ∷ 4 ∷ 2 ∷ 2 ∷ 1 ∷ []) × (map booked window-traces ≡ map promised-booked window-traces)
+unfolding put take below joined-records header stream traces replayed promised pick same less at upd word word-bytes text digits decimal block-size payload-size summed-size add-byte add-bytes sums block payload-of sum-differs misplaced block-refusal kind-number kinds look-up kind-of is-missing kind-found kind processes operations schedule-length record-at process action value scheduled slot-of process-of stream-length first-met any outside bad-kind bad-processes bad-operations bad-schedule-length exact-count bad-record bad-records bad-entry bad-schedule bad-padding header-conditions list-conditions most-file zeros block-at block-count payloads joined blocks padded file-of bad-length blocks-refusal bad-count stream-refusal file-refusal job-of fresh-memory set-from-to yes-if with-head with-tail with-top with-next with-mark with-upper row table position row-of successor end-of is-end ended is-return first-row have-read have-set access seek operation-after before fresh-state reach registers reached row-after place-after resting acting dropping step state-after answer-at answer-of is-answer event-of is-round is-linked item-of moved-to idle acted note-next note earliest latest made begins-round links joins ends first last answer start link join taken dropped-next dropped drop numbers sift largest takers first-move latest-start takes-at is-empty effect if-at line-at lines-to the-record walk left-in left tally lost millimetres half-way even-one nearest centimetres signed-decimal stage-text object-line action-text answer-text end-text progress-text operation-line operation-lines spaced effect-text record-line record-lines lost-line left-line report puts lines-of put-lines late-drop late-drops most-lost bound-of filled window Blocks.start windows window-traces booked promised-booked is-leap year-length days-of-years common-lengths month-length days-of-months from-to is-date day-number weekday-after weekday-before weekday year month day second entry-at weekdays opening closing bad-start bad-window bad-entries bad-rest bad-block no-block bad-windows closes in-window has-weekday open-on since-midnight day-of second-of is-open is-shut windowed idle-at
+computed = (refl, refl, refl)
+
+pub traces-proved : map replayed traces ≡ map promised traces
+traces-proved = computed .0
+
 pub bounds-proved : map bound-of (Lists.drop 31 traces) ≡ 4 ∷ 4 ∷ 2 ∷ 2 ∷ 1 ∷ []
-unfolding put take below joined-records header stream traces replayed promised pick same less at upd word word-bytes text digits decimal block-size payload-size summed-size add-byte add-bytes sums block payload-of sum-differs misplaced block-refusal kind-number kinds look-up kind-of is-missing kind-found kind processes operations schedule-length record-at process action value scheduled slot-of process-of stream-length first-met any outside bad-kind bad-processes bad-operations bad-schedule-length exact-count bad-record bad-records bad-entry bad-schedule bad-padding header-conditions list-conditions most-file zeros block-at block-count payloads joined blocks padded file-of bad-length blocks-refusal bad-count stream-refusal file-refusal job-of fresh-memory set-from-to yes-if with-head with-tail with-top with-next with-mark with-upper row table position row-of successor end-of is-end ended is-return first-row have-read have-set access seek operation-after before fresh-state reach registers reached row-after place-after resting acting dropping step state-after answer-at answer-of is-answer event-of is-round is-linked item-of moved-to idle acted note-next note earliest latest made begins-round links joins ends first last answer start link join taken dropped-next dropped drop numbers sift largest takers first-move latest-start takes-at is-empty effect if-at line-at lines-to the-record walk left-in left tally lost millimetres half-way even-one nearest centimetres signed-decimal stage-text object-line action-text answer-text end-text progress-text operation-line operation-lines spaced effect-text record-line record-lines lost-line left-line report puts lines-of put-lines late-drop late-drops most-lost bound-of
-bounds-proved = refl
+bounds-proved = computed .1
+
+pub window-traces-proved : map booked window-traces ≡ map promised-booked window-traces
+window-traces-proved = computed .2
