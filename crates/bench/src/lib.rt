@@ -8,7 +8,8 @@ ghost use Rattle.job.specs.Limits.{field};
 ghost use Rattle.job.specs.Calls.{read-number, read-length, read-work, write-number, write-length, write-out};
 ghost use Rattle.machine.specs.Explained.{Explained};
 ghost use Rattle.theory.specs.Bounded.{Bounded};
-ghost use Rattle.replayer.specs.Replay.{job-in, processes-in, replay-number, replay-length, replay-report, replay-work};
+ghost use Rattle.theory.specs.Cut.{SameAsCut};
+ghost use Rattle.replayer.specs.Replay.{job-in, processes-in, job-run, shut-in, replay-number, replay-length, replay-report, replay-work};
 ghost use Rattle.bench.specs.Packed.{packed};
 
 // A reply as one number.
@@ -19,16 +20,22 @@ fn pack(r: Reply) -> u64
     (r.number as u64) * 4294967296 + r.length as u64
 }
 
-// Replays the job in a file: the report's length, and the report in the report memory.
+// Replays the job in a file, with its window block or none: the report's length, and the report in the report memory.
 #[no_mangle]
-pub extern "C" fn bench_replay(file: &[u8], work: &mut [u8], report: &mut [u8]) -> u64
-    ensures answer { λ r. ⌜ r ≡ packed (replay-number field (now (file .entry)) (now (work .entry)) (now (report .entry))) (replay-length field (now (file .entry)) (now (work .entry)) (now (report .entry))) ⌝ }
-    ensures report { λ r. ⌜ now (report .exit) ≡ replay-report field (now (file .entry)) (now (work .entry)) (now (report .entry)) ⌝ }
-    ensures work { λ r. ⌜ now (work .exit) ≡ replay-work field (now (file .entry)) (now (work .entry)) (now (report .entry)) ⌝ }
-    ensures explained { λ r. ⌜ (replay-number field (now (file .entry)) (now (work .entry)) (now (report .entry)) ≡ 0 → Explained (job-in (now (file .entry))) (job-in (now (file .entry)) .steps)) ⌝ }
-    ensures bounded { λ r. ⌜ (replay-number field (now (file .entry)) (now (work .entry)) (now (report .entry)) ≡ 0 → job-in (now (file .entry)) .object ≡ Queue → Bounded (job-in (now (file .entry))) (job-in (now (file .entry)) .steps) (processes-in (now (file .entry)))) ⌝ }
+pub extern "C" fn bench_replay(
+    file: &[u8],
+    windows: &[u8],
+    work: &mut [u8],
+    report: &mut [u8],
+) -> u64
+    ensures answer { λ r. ⌜ r ≡ packed (replay-number field (now (file .entry)) (now (windows .entry)) (now (work .entry)) (now (report .entry))) (replay-length field (now (file .entry)) (now (windows .entry)) (now (work .entry)) (now (report .entry))) ⌝ }
+    ensures report { λ r. ⌜ now (report .exit) ≡ replay-report field (now (file .entry)) (now (windows .entry)) (now (work .entry)) (now (report .entry)) ⌝ }
+    ensures work { λ r. ⌜ now (work .exit) ≡ replay-work field (now (work .entry)) (now (report .entry)) ⌝ }
+    ensures explained { λ r. ⌜ (replay-number field (now (file .entry)) (now (windows .entry)) (now (work .entry)) (now (report .entry)) ≡ 0 → Explained (job-run (now (file .entry)) (now (windows .entry))) (job-run (now (file .entry)) (now (windows .entry)) .steps)) ⌝ }
+    ensures bounded { λ r. ⌜ (replay-number field (now (file .entry)) (now (windows .entry)) (now (work .entry)) (now (report .entry)) ≡ 0 → job-in (now (file .entry)) .object ≡ Queue → Bounded (job-run (now (file .entry)) (now (windows .entry))) (job-run (now (file .entry)) (now (windows .entry)) .steps) (processes-in (now (file .entry)))) ⌝ }
+    ensures cut { λ r. ⌜ (replay-number field (now (file .entry)) (now (windows .entry)) (now (work .entry)) (now (report .entry)) ≡ 0 → SameAsCut (shut-in (now (file .entry)) (now (windows .entry))) (job-in (now (file .entry)))) ⌝ }
 {
-    pack(replayer::replay(Limits::field(), file, work, report))
+    pack(replayer::replay(Limits::field(), file, windows, work, report))
 }
 
 // Reads a job file into the work memory: L, and the stream and zeros in the first 17,710 work bytes.

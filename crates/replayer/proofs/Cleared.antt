@@ -2,7 +2,7 @@
 use mathlib.Core.Path.{_≡_, sym, ap, _∙_}
 use Prim.Native.Nat.{ℕ, _≤_}
 use mathlib.Core.List.{List, _++_}
-use lib.ListN.{length, take, drop, replicate}
+use lib.ListN.{length, take, drop}
 use lib.Seq.{length-take-le}
 use Rattle.job.specs.File.{zeros}
 
@@ -11,6 +11,5 @@ module _ {end most : ℕ} (work : List ℕ) (is : end ≡ most) (room : most ≤
   pub front-length : end ≡ length (take end work)
   front-length = is ∙ sym (length-take-le most work room) ∙ ap (λ (n : ℕ). length (take n work)) (sym is)
 
-  pub cleared : (part : List ℕ) → part ≡ replicate (length (take end work)) 0 → part ++ drop end work ≡ zeros most ++ drop most work
-  unfolding zeros
-  cleared part e = ap (λ (l : List ℕ). l ++ drop end work) (e ∙ ap (λ (n : ℕ). replicate n 0) (sym front-length)) ∙ ap (λ (n : ℕ). zeros n ++ drop n work) is
+  pub cleared : (part : List ℕ) → part ≡ zeros (length (take end work)) → part ++ drop end work ≡ zeros most ++ drop most work
+  cleared part e = ap (λ (l : List ℕ). l ++ drop end work) (e ∙ ap zeros (sym front-length)) ∙ ap (λ (n : ℕ). zeros n ++ drop n work) is

@@ -1,34 +1,28 @@
--- Every operation of an accepted file is done by one of its job's processes. Assumes nothing.
-use mathlib.Core.Path.{_≡_}
-use Prim.Native.Nat.{ℕ, _≤_, _<_}
+-- Every operation of an accepted file is done by one of its job's processes, and none is nobody's. Assumes nothing.
+use Prim.Native.Nat.{ℕ}
 use native.Mathlib.Omega.{arith}
-use mathlib.Core.Bool.{false, not, _||_, _&&_}
 use mathlib.Core.List.{List}
-use Rattle.basics.specs.Choice.{same, less}
-use Rattle.basics.proofs.Choice.{less-lt}
 use Rattle.job.specs.declared.Limits.{Limits}
-use Rattle.job.specs.Stream.{processes, operations, process, action, value}
-use Rattle.job.specs.Refusals.{outside, bad-record, bad-records}
+use Rattle.job.specs.Limits.{Sound}
 use Rattle.job.specs.File.{stream-of}
 use Rattle.job.specs.Job.{job-of}
-use Rattle.job.proofs.Accepted.{Fine, Good-file}
-use borrow.Author.Tests.{not-false}
-use Rattle.job.proofs.Conditions.{or-both, any-each}
-use Rattle.job.proofs.View.{stream-good}
-use Rattle.machine.specs.Explained.{IsOperation}
+use Rattle.job.specs.Idle.{idle-at}
+use Rattle.job.proofs.Accepted.{Good-file}
+use Rattle.job.proofs.Recorded.{owner-said}
+use Rattle.job.proofs.View.{fine-processes, fine-owner, stream-good}
+use Rattle.windows.specs.Windowed.{windowed}
 use Rattle.theory.proofs.Lost.{Owned}
-use Rattle.replayer.specs.Replay.{job-in, processes-in}
+use Rattle.theory.proofs.Nobody.{Free}
+use Rattle.replayer.specs.Replay.{job-in, processes-in, job-run}
 
--- number 10 turns back an operation whose process is P or more
-in-range : {l : Limits} {s : List ℕ} → Fine l s → (o : ℕ) → IsOperation (operations s) o → process s o < processes s
-unfolding bad-records bad-record
-in-range {s = s} f o op =
-    let low : 1 ≤ o = op .from-one in
-    let high : o ≤ operations s = op .to-count in
-    let fine : bad-record s o ≡ false = any-each (bad-record s) 1 (operations s) (f .records) o low (omega arith) in
-    let its-process : not (less (process s o) (processes s)) || outside 1 2 (action s o) ≡ false = or-both (not (less (process s o) (processes s)) || outside 1 2 (action s o)) (same (action s o) 2 && not (same (value s o) 0)) fine .0 in
-    less-lt (not-false (less (process s o) (processes s)) (or-both (not (less (process s o) (processes s))) (outside 1 2 (action s o)) its-process .0))
+-- whatever its windows
+pub owned : {l : Limits} (file : List ℕ) → Good-file l file → (windows : List ℕ) → Owned (job-run file windows) (processes-in file)
+unfolding job-run windowed idle-at job-in processes-in job-of
+owned file g windows o op =
+    omega (arith, owner-said (stream-of file) (op .to-count), fine-owner (stream-good file g .fine) o (op .from-one) (op .to-count))
 
-pub owned : {l : Limits} (file : List ℕ) → Good-file l file → Owned (job-in file) (processes-in file)
-unfolding job-in processes-in job-of
-owned file g o op = in-range (stream-good file g .fine) o op
+pub free : {l : Limits} → Sound l → (file : List ℕ) → Good-file l file → Free (job-in file)
+unfolding job-in job-of
+free sound file g o op e =
+    let fine = stream-good file g .fine in
+    omega (arith, e, owner-said (stream-of file) (op .to-count), fine-owner fine o (op .from-one) (op .to-count), fine-processes fine, sound .places)

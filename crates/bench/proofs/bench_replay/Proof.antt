@@ -17,24 +17,25 @@ unfolding at
 pack-requires c κs =
     let r = c .before .before .before .before in
     let limits = r .before .before .before .field .ensures in
-    let bytes = r .before .before .before .before .before .before in
+    let bytes = r .before .before .before .before .before .before .before in
     subst (λ (n : ℕ). n < 2 ^ 32) (sym (r .replay .ensures .1 .0))
-    (replay-small (given-field limits) _ _ _ (omega (arith, ap (λ (l : Limits). l .report) limits)) (record { byte = λ i. bytes .shared-slice-known .given i .fits }))
+    (replay-small (given-field limits) _ _ _ _ (omega (arith, ap (λ (l : Limits). l .report) limits)) (record { byte = λ i. bytes .shared-slice-known .given i .fits }))
 
 returns : tie.Need-returns
 returns c =
     let r = c .before .before .before .before .before in
     let e = r .replay .ensures in
     let limits = r .before .before .before .field .ensures in
-    let p = r .before .before .before .before .before .before .before .args in (
-      c .pack .ensures ∙ (λ i. packed (e .0 i) (e .1 .0 i)) ∙ (λ i. packed (replay-number (limits i) (p .file .now) (p .work .now) (p .report .now)) (replay-length (limits i) (p .file .now) (p .work .now) (p .report .now))),
+    let p = r .before .before .before .before .before .before .before .before .args in
+    let accepted = e .0 ∙ (λ i. replay-number (limits i) (p .file .now) (p .windows .now) (p .work .now) (p .report .now)) in (
+      c .pack .ensures ∙ (λ i. packed (e .0 i) (e .1 .0 i)) ∙ (λ i. packed (replay-number (limits i) (p .file .now) (p .windows .now) (p .work .now) (p .report .now)) (replay-length (limits i) (p .file .now) (p .windows .now) (p .work .now) (p .report .now))),
       (
-        e .1 .1 .0 ∙ (λ i. replay-report (limits i) (p .file .now) (p .work .now) (p .report .now)),
+        e .1 .1 .0 ∙ (λ i. replay-report (limits i) (p .file .now) (p .windows .now) (p .work .now) (p .report .now)),
         (
-          e .1 .1 .1 .0 ∙ (λ i. replay-work (limits i) (p .file .now) (p .work .now) (p .report .now)),
+          e .1 .1 .1 .0 ∙ (λ i. replay-work (limits i) (p .work .now) (p .report .now)),
           (
-            λ z. e .1 .1 .1 .1 .0 (e .0 ∙ (λ i. replay-number (limits i) (p .file .now) (p .work .now) (p .report .now)) ∙ z),
-            λ z. e .1 .1 .1 .1 .1 (e .0 ∙ (λ i. replay-number (limits i) (p .file .now) (p .work .now) (p .report .now)) ∙ z),
+            λ z. e .1 .1 .1 .1 .0 (accepted ∙ z),
+            (λ z. e .1 .1 .1 .1 .1 .0 (accepted ∙ z), λ z. e .1 .1 .1 .1 .1 .1 (accepted ∙ z)),
           ),
         ),
       ),
