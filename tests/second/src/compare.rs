@@ -6,6 +6,7 @@ use crate::failure::guarded;
 use crate::file::{self, FILE_LIMIT, WORK};
 use crate::job::Job;
 use crate::library::LIBRARY;
+use crate::windows::Windows;
 use std::fmt;
 
 /// Memory behind the lent part, which nothing may touch.
@@ -67,8 +68,11 @@ pub struct Compare {
     pattern: Vec<u8>,
     pub calls: usize,
     /// By call (replay, read, write): how often each number was met.
-    pub met: [[usize; 13]; 3],
+    pub met: [[usize; NUMBERS]; 3],
 }
+
+/// 0, and the refusals of documents 01 and 02.
+pub const NUMBERS: usize = 14;
 
 const SHIFTS: usize = 251;
 
@@ -94,7 +98,7 @@ fn difference(name: &str, second: &[u8], library: &[u8]) -> Result<(), String> {
 impl Compare {
     pub fn new() -> Compare {
         let pattern = (0..ROOM + MARGIN + SHIFTS).map(|i| (i * 167 % 255) as u8 + 1).collect();
-        Compare { second: Side::new(SECOND), library: Side::new(LIBRARY), pattern, calls: 0, met: [[0; 13]; 3] }
+        Compare { second: Side::new(SECOND), library: Side::new(LIBRARY), pattern, calls: 0, met: [[0; NUMBERS]; 3] }
     }
 
     /// Fills all memories, makes the call on both sides, compares the answers and every byte.
@@ -108,7 +112,7 @@ impl Compare {
         ensure(second == library, || format!("the second replayer answers {second}, the library {library}"))?;
         difference("work", &self.second.work, &self.library.work)?;
         difference("output", &self.second.out, &self.library.out)?;
-        ensure(library.number < 13, || format!("number {}", library.number))?;
+        ensure((library.number as usize) < NUMBERS, || format!("number {}", library.number))?;
         self.met[call][library.number as usize] += 1;
         ensure(library.number == 0 || library.length == 0, || format!("a refusal with a length: {library}"))?;
         Ok(library)
@@ -132,8 +136,10 @@ impl Compare {
         difference("output past its length", &pattern[answer.length..], &self.library.out[answer.length..])
     }
 
-    pub fn replay(&mut self, file: &[u8], lent: Lent) -> Result<Answer, String> {
-        let answer = self.both(0, |side| (side.calls.replay)(file, &mut side.work[..lent.work], &mut side.out[..lent.report]))?;
+    /// A replay within windows; empty ones are none.
+    pub fn replay(&mut self, file: &[u8], windows: &[u8], lent: Lent) -> Result<Answer, String> {
+        let Lent { work, report } = lent;
+        let answer = self.both(0, |side| (side.calls.replay)(file, windows, &mut side.work[..work], &mut side.out[..report]))?;
         self.work_is(answer, &[])?;
         self.out_is_kept(answer)?;
         Ok(answer)
@@ -169,7 +175,7 @@ impl Compare {
 
     /// A file that both replay and read must treat alike; gives the replay's answer.
     pub fn file(&mut self, file: &[u8]) -> Result<Answer, String> {
-        let replayed = self.replay(file, ENOUGH)?;
+        let replayed = self.replay(file, &[], ENOUGH)?;
         let read = self.read(file, WORK)?;
         ensure(replayed.number == read.number, || format!("replay answers {replayed}, read {read}"))?;
         Ok(replayed)
@@ -183,17 +189,18 @@ impl Compare {
         let read = self.read(&file, WORK)?;
         ensure(read == Answer { number: 0, length: stream.len() }, || format!("the written file reads as {read}"))?;
         difference("the stream that comes round", stream, &self.library.work[..stream.len()])?;
-        self.run(stream, &file)
+        self.run(stream, &file, &[])
     }
 
-    /// The replay of an accepted job. A difference is judged: whose report explains the steps?
-    pub fn run(&mut self, stream: &[u8], file: &[u8]) -> Result<check::Seen, String> {
+    /// The replay of an accepted job within accepted windows, or none. A difference is judged: whose report explains the steps?
+    pub fn run(&mut self, stream: &[u8], file: &[u8], windows: &[u8]) -> Result<check::Seen, String> {
         let job = Job::of_stream(stream).map_err(|number| format!("no job: {number}"))?;
-        let replayed = self.replay(file, ENOUGH);
-        let mut memory = vec![0; REPORT];
-        let (log, length) = check::logged(&job, &mut memory);
-        let facts = check::Facts::of(&job, &log).map_err(|why| format!("{}{why}", said(&replayed)))?;
-        let own = check::explained(&job, &log, &facts, &memory[..length]);
+        let replayed = self.replay(file, windows, ENOUGH);
+        let read = Windows::read(windows).map_err(|number| format!("{}no windows: {number}", said(&replayed)))?;
+        let shut = check::windows::shut(&job, windows);
+        let (log, report) = check::logged(&job, read.as_ref());
+        let facts = check::Facts::of(&job, &shut, &log).map_err(|why| format!("{}{why}", said(&replayed)))?;
+        let own = check::explained(&job, &log, &facts, &report);
         if replayed.is_err() {
             let library = check::explained(&job, &log, &facts, self.changed_output());
             let (second, library) = (verdict(&own), verdict(&library));
@@ -201,7 +208,19 @@ impl Compare {
         }
         let answer = replayed?;
         ensure(answer.number == 0, || format!("the replay refuses the job: {answer}"))?;
-        own.map_err(|why| format!("both sides agree, but the report does not explain the run: {why}"))
+        let seen = own.map_err(|why| format!("both sides agree, but the report does not explain the run: {why}"))?;
+        if !windows.is_empty() {
+            self.cut_out(stream, &shut, &report)?;
+        }
+        Ok(seen)
+    }
+
+    /// Whether a report within windows is what the job without its shut entries gives, with the step numbers of the whole one.
+    fn cut_out(&mut self, stream: &[u8], shut: &[bool], report: &[u8]) -> Result<(), String> {
+        let cut = check::cut::stream(stream, shut);
+        let answer = self.replay(&file::sealed(&cut), &[], ENOUGH).map_err(|why| format!("without the shut entries: {why}"))?;
+        let same = check::cut::numbered_back(self.output(answer), shut) == report;
+        ensure(same, || "both sides agree, but the job without its shut entries gives another report".to_string())
     }
 }
 

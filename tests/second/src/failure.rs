@@ -52,6 +52,11 @@ pub fn kept(name: &str, bytes: &[u8], why: String) -> String {
     }
 }
 
+/// The same for a job and its window block.
+pub fn kept_within(name: &str, file: &[u8], block: &[u8], why: String) -> String {
+    kept(&format!("{name}.win"), block, kept(&format!("{name}.job"), file, why))
+}
+
 /// The same for a job that a seed made.
 pub fn seeded(seed: u64, file: &[u8], why: String) -> String {
     let again = format!("{why}\n  again: sh tests/second/long 1 {seed}");

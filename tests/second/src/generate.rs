@@ -3,6 +3,7 @@
 pub mod collisions;
 pub mod drops;
 pub mod order;
+pub mod windows;
 
 use crate::job::{OPERATIONS, PROCESSES, Record, STEPS};
 use crate::random::Random;

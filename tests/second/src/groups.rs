@@ -11,6 +11,7 @@ pub mod outcomes;
 pub mod rooms;
 pub mod traces;
 pub mod values;
+pub mod windows;
 
 use crate::check::Seen;
 use crate::compare::Compare;

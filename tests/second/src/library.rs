@@ -6,6 +6,8 @@ unsafe extern "C" {
     fn bench_replay(
         file: *const u8,
         file_length: usize,
+        windows: *const u8,
+        windows_length: usize,
         work: *mut u8,
         work_length: usize,
         report: *mut u8,
@@ -17,9 +19,13 @@ unsafe extern "C" {
 
 pub const LIBRARY: Calls = Calls { replay, read, write };
 
-pub fn replay(file: &[u8], work: &mut [u8], report: &mut [u8]) -> u64 {
+pub fn replay(file: &[u8], windows: &[u8], work: &mut [u8], report: &mut [u8]) -> u64 {
+    let (file, file_length) = (file.as_ptr(), file.len());
+    let (windows, windows_length) = (windows.as_ptr(), windows.len());
+    let (work, work_length) = (work.as_mut_ptr(), work.len());
+    let (report, report_length) = (report.as_mut_ptr(), report.len());
     // SAFETY: each pointer and length is one slice's; the contracts ask nothing else of a caller.
-    unsafe { bench_replay(file.as_ptr(), file.len(), work.as_mut_ptr(), work.len(), report.as_mut_ptr(), report.len()) }
+    unsafe { bench_replay(file, file_length, windows, windows_length, work, work_length, report, report_length) }
 }
 
 pub fn read(file: &[u8], work: &mut [u8]) -> u64 {

@@ -1,11 +1,13 @@
-//! Sample jobs: the traces of document 01, as document 02 has them, jobs with drops and jobs that lose rounds, with their texts, written out by
-//! hand, the jobs that docs/ shows, and a full-size hour of a flood.
+//! Sample jobs: the traces of document 01, as document 02 has them, jobs with drops, jobs that lose rounds and one with windows, with their
+//! texts, written out by hand, the jobs that docs/ shows, and a full-size hour of a flood.
 
 pub mod drops;
 pub mod flood;
 pub mod lost;
+pub mod satellite;
 
 use crate::generate::{Draft, put, take, turns};
+use crate::windows::Windows;
 
 /// A job and the report that the papers give for it, or that follows from them by hand.
 pub struct Trace {
@@ -182,6 +184,7 @@ pub fn traces() -> Vec<Trace> {
     let mut traces = vec![listing(), fifth(), halves(), below_datum()];
     traces.extend([drops::put_dropped(), drops::take_dropped(), drops::nothing_dropped()]);
     traces.extend([lost::puts_collide(), lost::take_helps(), lost::own_help()]);
+    traces.push(satellite::unbooked());
     traces.extend(short_traces());
     traces.extend(stack_traces());
     traces
@@ -197,8 +200,14 @@ pub fn all() -> Vec<(&'static str, Draft)> {
     samples.push(("drop-put", drops::put_dropped().draft));
     samples.push(("drop-take", drops::take_dropped().draft));
     samples.push(("drop-idle", drops::nothing_dropped().draft));
+    samples.push(("satellite", satellite::unbooked().draft));
     samples.push(("smallest", smallest()));
     samples
+}
+
+/// Those that have windows beside them, and their reports within.
+pub fn within() -> [(&'static str, Windows, &'static str); 1] {
+    [("satellite", satellite::windows(), satellite::BOOKED)]
 }
 
 fn queue(processes: u8, records: &[[u8; 4]], schedule: &[u8]) -> Draft {

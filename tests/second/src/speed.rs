@@ -1,6 +1,7 @@
 //! Both sides on the same calls, in turns in one run, two ways: one input repeated, and all inputs in rotation. A processor learns
 //! the branches of a call that is repeated, so only the rotation tells of inputs that it has not just seen.
 
+pub mod booked;
 pub mod shapes;
 
 use crate::calls::{Calls, REPORT, SECOND};
@@ -58,8 +59,9 @@ fn best(inputs: &[&Vec<u8>], rounds: usize, call: &impl Fn(&Calls, &[u8], &mut M
     Pair { second, library }
 }
 
-pub fn replay(files: &[Vec<u8>], rounds: usize) -> Measured {
-    measured(files, rounds, |calls, file, memories| (calls.replay)(file, &mut memories.work, &mut memories.out))
+/// All of them within the same windows; empty ones are none.
+pub fn replay(files: &[Vec<u8>], windows: &[u8], rounds: usize) -> Measured {
+    measured(files, rounds, |calls, file, memories| (calls.replay)(file, windows, &mut memories.work, &mut memories.out))
 }
 
 pub fn read(files: &[Vec<u8>], rounds: usize) -> Measured {

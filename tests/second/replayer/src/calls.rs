@@ -3,14 +3,18 @@
 use crate::file::{self, FILE_LIMIT, WORK};
 use crate::job::{HEADER, Header, Job, Refusal};
 use crate::report;
+use crate::windows::Windows;
 
 /// The report memory that a replay needs.
 pub const REPORT: usize = 32_768;
 
+/// A job's file, the window block or nothing, work and report memory.
+type Replay = fn(&[u8], &[u8], &mut [u8], &mut [u8]) -> u64;
+
 /// The three calls of one side; each answers number × 2^32 + length.
 #[derive(Clone, Copy)]
 pub struct Calls {
-    pub replay: fn(&[u8], &mut [u8], &mut [u8]) -> u64,
+    pub replay: Replay,
     pub read: fn(&[u8], &mut [u8]) -> u64,
     pub write: fn(&[u8], &mut [u8]) -> u64,
 }
@@ -24,14 +28,21 @@ fn answer(result: Result<usize, Refusal>) -> u64 {
     }
 }
 
-pub fn replay(file: &[u8], work: &mut [u8], report: &mut [u8]) -> u64 {
+pub fn replay(file: &[u8], windows: &[u8], work: &mut [u8], report: &mut [u8]) -> u64 {
     if report.len() < REPORT || work.len() < WORK {
         return answer(Err(1));
     }
     let work = &mut work[..WORK];
-    let result = file::open(file, work).map(|(job, _)| report::replay(&job, report));
+    let result = try_replay(file, windows, work, report);
     work.fill(0);
     answer(result)
+}
+
+/// Conditions 2 to 12 of the file, then 13 of the windows.
+fn try_replay(file: &[u8], windows: &[u8], work: &mut [u8], report: &mut [u8]) -> Result<usize, Refusal> {
+    let (job, _) = file::open(file, work)?;
+    let windows = Windows::read(windows)?;
+    Ok(report::replay(&job, windows.as_ref(), report))
 }
 
 pub fn read(file: &[u8], work: &mut [u8]) -> u64 {

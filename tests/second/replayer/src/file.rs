@@ -25,7 +25,7 @@ fn word(block: &[u8; BLOCK], at: usize) -> u16 {
 }
 
 /// A block's payload, or condition 3, then 4.
-fn payload(block: &[u8; BLOCK], position: usize) -> Result<&[u8], Refusal> {
+pub fn payload(block: &[u8; BLOCK], position: usize) -> Result<&[u8], Refusal> {
     if sums(block) != (word(block, SUMMED), word(block, SUMMED + 2)) {
         return Err(3);
     }

@@ -1,6 +1,7 @@
 //! A second replayer, written from documents 01 and 02 alone. It shares nothing with the library: the tests compare the two, and
 //! the command `bench steps` shows its steps where they agree.
 
+pub mod calendar;
 pub mod calls;
 pub mod file;
 pub mod job;
@@ -11,3 +12,6 @@ pub mod report;
 pub mod stack;
 pub mod text;
 pub mod watch;
+pub mod windows;
+
+pub use windows::Windows;

@@ -28,6 +28,7 @@ impl Object for Linked {
         }
     }
 
+    #[inline(always)]
     fn act(&mut self, place: &mut Place, step: u16, journal: &mut Journal, watch: &mut impl Watch) -> Then {
         let Place { operation: own, t, n: u, .. } = *place;
         let lower = self.lower[usize::from(t)];

@@ -2,6 +2,7 @@
 
 use crate::job::{self, Action, Job, OPERATIONS, PROCESSES, Slot};
 use crate::watch::{Row, Watch};
+use crate::windows::Windows;
 
 /// Operations count from 1 and node i is operation i's, so 0 is free to say none.
 pub const NONE: u16 = 0;
@@ -159,11 +160,40 @@ fn stand_before<O: Object>(place: &mut Place, operation: u16, records: &[job::Re
     }
 }
 
-/// Runs a whole schedule.
-pub fn run<'a, O: Object>(job: &Job<'a>, watch: &mut impl Watch) -> Machine<'a, O> {
+/// Runs a whole schedule, within windows if there are any.
+pub fn run<'a, O: Object>(job: &Job<'a>, windows: Option<&Windows>, watch: &mut impl Watch) -> Machine<'a, O> {
+    match windows {
+        None => run_all(job, watch),
+        Some(windows) => run_within(job, windows, watch),
+    }
+}
+
+fn run_all<'a, O: Object>(job: &Job<'a>, watch: &mut impl Watch) -> Machine<'a, O> {
     let mut machine = Machine::fresh(job.records);
     for (&entry, step) in job.schedule.iter().zip(1..) {
         machine.step(step, entry, watch);
+    }
+    machine
+}
+
+/// The same, minute by minute: a step whose process may not work in its minute is idle.
+fn run_within<'a, O: Object>(job: &Job<'a>, windows: &Windows, watch: &mut impl Watch) -> Machine<'a, O> {
+    let mut machine = Machine::fresh(job.records);
+    let mut moment = windows.start();
+    let mut made = 0;
+    while made < job.schedule.len() {
+        let seconds = moment.rest_of_minute();
+        let open = windows.open_at(moment);
+        for (&entry, step) in job.schedule[made..].iter().take(seconds as usize).zip(made as u16 + 1..) {
+            let process = job::slot(entry).process();
+            if open >> process & 1 == 1 {
+                machine.step(step, entry, watch);
+            } else {
+                watch.shut(step, process);
+            }
+        }
+        made += seconds as usize;
+        moment = moment.after(seconds);
     }
     machine
 }

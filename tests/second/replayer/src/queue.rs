@@ -27,6 +27,7 @@ impl Object for Queue {
         }
     }
 
+    #[inline(always)]
     fn act(&mut self, place: &mut Place, step: u16, journal: &mut Journal, watch: &mut impl Watch) -> Then {
         let own = place.operation;
         let Place { h, t, n, .. } = *place;

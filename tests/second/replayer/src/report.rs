@@ -7,17 +7,18 @@ use crate::queue::Queue;
 use crate::stack::Stack;
 use crate::text::Text;
 use crate::watch::{Nobody, Watch};
+use crate::windows::Windows;
 
-/// Runs a job and writes its report into `memory`; gives the report's length.
-pub fn replay(job: &Job, memory: &mut [u8]) -> usize {
-    replay_watched(job, memory, &mut Nobody)
+/// Runs a job, within windows if there are any, and writes its report into `memory`; gives the report's length.
+pub fn replay(job: &Job, windows: Option<&Windows>, memory: &mut [u8]) -> usize {
+    replay_watched(job, windows, memory, &mut Nobody)
 }
 
-pub fn replay_watched(job: &Job, memory: &mut [u8], watch: &mut impl Watch) -> usize {
+pub fn replay_watched(job: &Job, windows: Option<&Windows>, memory: &mut [u8], watch: &mut impl Watch) -> usize {
     match job.kind {
-        Kind::Queue => report(job, &run::<Queue>(job, watch), memory),
-        Kind::Stack => report(job, &run::<Stack>(job, watch), memory),
-        Kind::Linked => report(job, &run::<Linked>(job, watch), memory),
+        Kind::Queue => report(job, &run::<Queue>(job, windows, watch), memory),
+        Kind::Stack => report(job, &run::<Stack>(job, windows, watch), memory),
+        Kind::Linked => report(job, &run::<Linked>(job, windows, watch), memory),
     }
 }
 

@@ -25,6 +25,7 @@ impl Object for Stack {
         }
     }
 
+    #[inline(always)]
     fn act(&mut self, place: &mut Place, step: u16, journal: &mut Journal, watch: &mut impl Watch) -> Then {
         let own = place.operation;
         let t = place.t;

@@ -44,6 +44,8 @@ pub trait Watch {
     fn end(&mut self, answer: Answer);
     /// A step that is a drop: its number, its process, and the operation dropped, unless none is begun and the step is idle.
     fn dropping(&mut self, step: u16, process: u8, operation: Option<u16>);
+    /// A step outside its process's window, be it a drop or not: its number and its process. It is idle.
+    fn shut(&mut self, step: u16, process: u8);
 }
 
 pub struct Nobody;
@@ -54,6 +56,7 @@ impl Watch for Nobody {
     fn aim(&mut self, _: u16, _: u16) {}
     fn end(&mut self, _: Answer) {}
     fn dropping(&mut self, _: u16, _: u8, _: Option<u16>) {}
+    fn shut(&mut self, _: u16, _: u8) {}
 }
 
 /// A read of a cell.
@@ -96,11 +99,12 @@ pub struct Drop {
     pub operation: u16,
 }
 
-/// The acting steps of a run and its drops, each in order, and the number of all its steps.
+/// The acting steps of a run, its drops and the steps outside a window, each in order, and the number of all its steps.
 #[derive(Default)]
 pub struct Log {
     pub events: Vec<Event>,
     pub drops: Vec<Drop>,
+    pub shut: Vec<u16>,
     pub steps: u16,
 }
 
@@ -129,5 +133,10 @@ impl Watch for Log {
     fn dropping(&mut self, step: u16, process: u8, operation: Option<u16>) {
         self.steps = step;
         self.drops.extend(operation.map(|operation| Drop { step, process, operation }));
+    }
+
+    fn shut(&mut self, step: u16, _: u8) {
+        self.steps = step;
+        self.shut.push(step);
     }
 }

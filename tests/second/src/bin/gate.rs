@@ -1,7 +1,7 @@
 //! The gate run. Its last line is 'N passed, M failed', counted in test groups.
 
 use second::generate::STYLES;
-use second::groups::{self, Bench, bytes, every, faults, jobs, lengths, limits, lost, outcomes, rooms, traces, values};
+use second::groups::{Bench, bytes, every, faults, jobs, lengths, limits, lost, outcomes, rooms, traces, values, windows};
 use std::process::ExitCode;
 
 /// Jobs of each style, a third of them of each kind (collisions are queues), and the first seed.
@@ -9,7 +9,18 @@ const JOBS: usize = 3_750;
 const FIRST_SEED: u64 = 1;
 
 fn main() -> ExitCode {
-    let mut bench = groups::Bench::new();
+    let mut bench = Bench::new();
+    runs(&mut bench);
+    lost_rounds(&mut bench);
+    transmission_windows(&mut bench);
+    bench.group("steps, every row both ways", jobs::reached);
+    refusals(&mut bench);
+    bench.group("lent memories", rooms::all);
+    bench.group("every number of the table", faults::met);
+    if bench.finish() { ExitCode::SUCCESS } else { ExitCode::FAILURE }
+}
+
+fn runs(bench: &mut Bench) {
     bench.group("traces of the paper", traces::paper);
     bench.group("traces that are proved, every outcome", outcomes::proved);
     bench.group("sample files", traces::samples);
@@ -21,11 +32,34 @@ fn main() -> ExitCode {
     }
     bench.group("every order of small jobs", every::schedules);
     bench.group("every order of small jobs, with drops", every::drops);
+}
+
+fn lost_rounds(bench: &mut Bench) {
     bench.group("lost rounds, full jobs at the bound", lost::full_jobs);
     bench.group("lost rounds, two hundred puts", lost::two_hundred);
     bench.group("lost rounds, mixed jobs at the bound", lost::mixed_jobs);
     bench.group("lost lines that are wrong", lost::checks);
-    bench.group("steps, every row both ways", jobs::reached);
+}
+
+fn transmission_windows(bench: &mut Bench) {
+    bench.group("windows, traces that are proved", windows::traces::proved);
+    bench.group("windows, reports by hand", windows::traces::by_hand);
+    bench.group("windows that are not heeded", windows::traces::checks);
+    bench.group("windows, edges by hand", windows::edges::by_hand);
+    bench.group("windows, edges of every sort", windows::edges::every);
+    bench.group("windows, days of a printed calendar", windows::days::printed);
+    bench.group("windows, every day of the years", windows::days::every);
+    bench.group("windows, every date and what is none", windows::days::taken);
+    bench.group("windows, every order of small jobs", windows::orders::every);
+    bench.group("windows, every order of small jobs, with drops", windows::orders::drops);
+    bench.group("window blocks, every way to be wrong", windows::refused::ways);
+    bench.group("window blocks, lengths", windows::refused::lengths);
+    bench.group("window blocks, single changes", windows::refused::single_changes);
+    bench.group("window blocks, changes with right sums", windows::refused::summed_changes);
+    bench.group("window blocks behind other faults", windows::refused::behind_others);
+}
+
+fn refusals(bench: &mut Bench) {
     bench.group("faults alone", faults::alone);
     bench.group("sums and numbers, block by block", faults::block_by_block);
     bench.group("faults in pairs", faults::pairs);
@@ -36,7 +70,4 @@ fn main() -> ExitCode {
     bench.group("random bytes", bytes::random);
     bench.group("lengths of files", lengths::files);
     bench.group("lengths of streams", lengths::streams);
-    bench.group("lent memories", rooms::all);
-    bench.group("every number of the table", faults::met);
-    if bench.finish() { ExitCode::SUCCESS } else { ExitCode::FAILURE }
 }

@@ -5,7 +5,7 @@ use second::generate::Draft;
 use second::generate::order::Order;
 use second::job::{OPERATIONS, STEPS};
 use second::speed::shapes::{ROTATION, acting, dropping, jobs};
-use second::speed::{self, Measured, Pair};
+use second::speed::{self, Measured, Pair, booked};
 use std::env;
 use std::process::ExitCode;
 
@@ -56,10 +56,10 @@ impl FullSize {
     fn add(&mut self, (kind, object): (u8, &str), rounds: usize) {
         for (order, name) in [(Order::Uniform, "random"), (Order::Lockstep, "round robin"), (Order::Crowded, "crowded")] {
             let drafts = jobs(kind, OPERATIONS, STEPS, &order);
-            self.whole.push(row(&format!("{object}, {name}"), &drafts, &speed::replay(&files(&drafts), rounds)));
+            self.whole.push(row(&format!("{object}, {name}"), &drafts, &speed::replay(&files(&drafts), &[], rounds)));
             let drafts = acting(&drafts);
             let name = format!("{object}, {name}, acting steps only");
-            self.acting.push(row(&name, &drafts, &speed::replay(&files(&drafts), rounds)));
+            self.acting.push(row(&name, &drafts, &speed::replay(&files(&drafts), &[], rounds)));
         }
     }
 
@@ -103,9 +103,23 @@ fn with_drops(rounds: usize) {
     heading("Replay with drops, 256 operations on 8 processes");
     for (kind, object) in OBJECTS {
         let drafts = dropping(&jobs(kind, OPERATIONS, STEPS, &Order::Uniform));
-        row(&format!("{object}, random, with drops"), &drafts, &speed::replay(&files(&drafts), rounds));
+        row(&format!("{object}, random, with drops"), &drafts, &speed::replay(&files(&drafts), &[], rounds));
         let drafts = acting(&drafts);
-        row(&format!("{object}, random, with drops, acting steps only"), &drafts, &speed::replay(&files(&drafts), rounds));
+        row(&format!("{object}, random, with drops, acting steps only"), &drafts, &speed::replay(&files(&drafts), &[], rounds));
+    }
+}
+
+/// A block that is open throughout, with all steps and with those that act, and one that shuts half of the processes half of the time.
+fn within_windows(rounds: usize) {
+    heading("Replay within windows, 256 operations on 8 processes");
+    let (open, half) = (booked::open().block(), booked::half().block());
+    for (kind, object) in OBJECTS {
+        let drafts = jobs(kind, OPERATIONS, STEPS, &Order::Uniform);
+        row(&format!("{object}, random, open throughout"), &drafts, &speed::replay(&files(&drafts), &open, rounds));
+        row(&format!("{object}, random, half shut"), &drafts, &speed::replay(&files(&drafts), &half, rounds));
+        let drafts = acting(&drafts);
+        let name = format!("{object}, random, open throughout, acting steps only");
+        row(&name, &drafts, &speed::replay(&files(&drafts), &open, rounds));
     }
 }
 
@@ -118,7 +132,7 @@ fn shorter(rounds: usize) {
         for (name, operations) in counts {
             for steps in [1_024, 2_048, 4_096, 8_192] {
                 let drafts = jobs(kind, operations(steps), steps, &Order::Uniform);
-                row(&format!("{object}, {name}"), &drafts, &speed::replay(&files(&drafts), rounds));
+                row(&format!("{object}, {name}"), &drafts, &speed::replay(&files(&drafts), &[], rounds));
             }
         }
     }
@@ -133,6 +147,7 @@ fn main() -> ExitCode {
     eprintln!("Both sides take turns, {rounds} rounds of {ROTATION} calls each; the best round of each side counts.");
     full_size(rounds);
     with_drops(rounds);
+    within_windows(rounds);
     reading_and_writing(rounds);
     shorter(rounds);
     ExitCode::SUCCESS

@@ -132,10 +132,11 @@ pub struct Facts {
 }
 
 impl Facts {
-    pub fn of(job: &Job, log: &Log) -> Result<Facts, String> {
+    /// `shut` says by step whether it is outside its process's window: it must then be idle, and logged so.
+    pub fn of(job: &Job, shut: &[bool], log: &Log) -> Result<Facts, String> {
         let operations = vec![Operation::default(); job.records.len() + 1];
         let mut facts = Facts { operations, taken: [None; CELLS], lost: 0, memory: Memory::fresh() };
-        let mut order = Order::of(job);
+        let mut order = Order::of(job, shut);
         let mut drops = log.drops.iter().peekable();
         for event in &log.events {
             while let Some(drop) = drops.next_if(|drop| drop.step < event.step) {
@@ -147,6 +148,10 @@ impl Facts {
         }
         drops.try_for_each(|drop| facts.drop(job, &mut order, drop))?;
         let ended = order.ended(job) && usize::from(log.steps) == job.schedule.len();
+        let numbers = (1..).zip(shut).filter(|(_, shut)| **shut).map(|(step, _)| step);
+        if !log.shut.iter().copied().eq(numbers) {
+            return Err("the second replayer has other steps outside a window".to_string());
+        }
         if ended { Ok(facts) } else { Err("the second replayer's steps end too soon".to_string()) }
     }
 

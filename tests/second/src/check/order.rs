@@ -1,10 +1,12 @@
 //! The order of a log: each step is its scheduled process's, a step that is not logged is idle, and each process does its
-//! operations in list order. A scheduled drop ends nothing: the process goes on with its next operation.
+//! operations in list order. A scheduled drop ends nothing: the process goes on with its next operation. A shut step is nobody's.
 
 use crate::job::{self, Job};
 use crate::watch::{Drop, Event};
 
-pub struct Order {
+pub struct Order<'a> {
+    /// By step: whether it is shut.
+    shut: &'a [bool],
     /// The steps walked so far.
     walked: usize,
     /// By process: where it is.
@@ -23,29 +25,31 @@ fn entry(entry: u8) -> (u8, bool) {
     (entry % 128, entry >= 128)
 }
 
-impl Order {
-    pub fn of(job: &Job) -> Order {
+impl Order<'_> {
+    pub fn of<'a>(job: &Job, shut: &'a [bool]) -> Order<'a> {
         let at = (0..job.processes).map(|process| At { operation: next_of(job, process, 0), begun: false }).collect();
-        Order { walked: 0, at }
+        Order { shut, walked: 0, at }
     }
 
-    /// Whether no process acts on its entry and none has anything to drop.
-    fn idle(&self, entries: &[u8]) -> bool {
-        entries.iter().map(|&byte| entry(byte)).all(|(process, drop)| {
+    /// Whether all steps that are not walked, up to `end`, are idle: shut, or no process acts on its entry and none has anything to drop.
+    fn idle(&self, job: &Job, end: usize) -> bool {
+        let mut steps = self.walked..end;
+        steps.all(|step| {
+            let (process, drop) = entry(job.schedule[step]);
             let At { operation, begun } = self.at[usize::from(process)];
-            if drop { !begun } else { operation == 0 }
+            self.shut[step] || if drop { !begun } else { operation == 0 }
         })
     }
 
-    /// Walks up to a logged step; gives its entry, or none if a step between was not idle.
+    /// Walks up to a logged step; gives its entry, or none if it is shut or a step between was not idle.
     fn walk(&mut self, job: &Job, step: u16) -> Option<(u8, bool)> {
         let step = usize::from(step);
         if step <= self.walked || step > job.schedule.len() {
             return None;
         }
-        let idle = self.idle(&job.schedule[self.walked..step - 1]);
+        let idle = self.idle(job, step - 1);
         self.walked = step;
-        idle.then(|| entry(job.schedule[step - 1]))
+        (idle && !self.shut[step - 1]).then(|| entry(job.schedule[step - 1]))
     }
 
     /// Takes one logged step; gives whether it stands where the schedule has it.
@@ -77,7 +81,7 @@ impl Order {
 
     /// Whether only idle steps are left.
     pub fn ended(&self, job: &Job) -> bool {
-        self.idle(&job.schedule[self.walked..])
+        self.idle(job, job.schedule.len())
     }
 }
 

@@ -3,7 +3,7 @@
 use super::facts::Facts;
 use super::lost;
 use super::parse::{Effect, Report};
-use crate::job::{DROP, Job};
+use crate::job::{DROP, Job, PROCESSES, slot};
 use crate::watch::{CLEARED, Event, Log, ROWS, Row};
 
 /// Each count is of runs' steps or lines; `rows` is by row and by outcome.
@@ -18,6 +18,7 @@ pub struct Seen {
     pub open_puts: usize,
     pub idle_steps: usize,
     pub dropped: Dropped,
+    pub shut: Shut,
 }
 
 /// Counts of dropped operations, and of drops with none begun.
@@ -29,11 +30,32 @@ pub struct Dropped {
     pub idle: usize,
 }
 
+/// Counts of steps outside their process's window, and of windows that opened or closed between two steps of their process.
+#[derive(Clone, Copy, Default, Debug)]
+pub struct Shut {
+    pub steps: usize,
+    /// Of them, those that are drops in the schedule.
+    pub drops: usize,
+    pub openings: usize,
+    pub closings: usize,
+}
+
 impl Default for Seen {
     fn default() -> Seen {
         let rows = [[0; 2]; ROWS];
         let dropped = Dropped { before: [0; ROWS], takers: 0, puts: 0, idle: 0 };
-        Seen { rows, cleared_again: 0, shared_lines: 0, lines_of_eight: 0, open_takers: 0, open_puts: 0, idle_steps: 0, dropped }
+        let shut = Shut::default();
+        Seen {
+            rows,
+            cleared_again: 0,
+            shared_lines: 0,
+            lines_of_eight: 0,
+            open_takers: 0,
+            open_puts: 0,
+            idle_steps: 0,
+            dropped,
+            shut,
+        }
     }
 }
 
@@ -43,11 +65,13 @@ impl Seen {
         for event in &log.events {
             seen.step(event);
         }
-        seen.idle_steps = usize::from(log.steps) - log.events.len() - log.drops.len();
+        seen.shut = Shut::of(job, log);
+        seen.idle_steps = usize::from(log.steps) - log.events.len() - log.drops.len() - log.shut.len();
         for row in facts.operations.iter().filter_map(|own| own.dropped_before()) {
             seen.dropped.before[row as usize] += 1;
         }
-        seen.dropped.idle = job.schedule.iter().filter(|&&entry| entry >= DROP).count() - log.drops.len();
+        let drops = job.schedule.iter().filter(|&&entry| entry >= DROP).count();
+        seen.dropped.idle = drops - log.drops.len() - seen.shut.drops;
         for line in &report.lines {
             seen.line(&line.effect, facts);
         }
@@ -90,6 +114,7 @@ impl Seen {
         self.open_puts += other.open_puts;
         self.idle_steps += other.idle_steps;
         self.dropped.add(&other.dropped);
+        self.shut.add(&other.shut);
     }
 
     /// The rounds lost: Q3s that changed nothing, Q5s and T4s.
@@ -115,6 +140,7 @@ impl Seen {
             && self.open_puts > 0
             && self.idle_steps > 0
             && self.dropped.all()
+            && self.shut.all()
     }
 }
 
@@ -132,5 +158,36 @@ impl Dropped {
     /// before a first row are on their way back to it.
     fn all(&self) -> bool {
         self.before.iter().all(|&count| count > 0) && self.takers > 0 && self.puts > 0 && self.idle > 0
+    }
+}
+
+impl Shut {
+    fn of(job: &Job, log: &Log) -> Shut {
+        let mut shut = Shut::default();
+        let mut outside = log.shut.iter().copied().peekable();
+        // by process: whether its step before this one was shut
+        let mut before = [None; PROCESSES];
+        for (&entry, step) in job.schedule.iter().zip(1..) {
+            let is_shut = outside.next_if_eq(&step).is_some();
+            shut.steps += usize::from(is_shut);
+            shut.drops += usize::from(is_shut && entry >= DROP);
+            match before[usize::from(slot(entry).process())].replace(is_shut) {
+                Some(true) if !is_shut => shut.openings += 1,
+                Some(false) if is_shut => shut.closings += 1,
+                _ => {}
+            }
+        }
+        shut
+    }
+
+    fn add(&mut self, other: &Shut) {
+        self.steps += other.steps;
+        self.drops += other.drops;
+        self.openings += other.openings;
+        self.closings += other.closings;
+    }
+
+    pub fn all(&self) -> bool {
+        self.steps > 0 && self.drops > 0 && self.openings > 0 && self.closings > 0
     }
 }

@@ -100,7 +100,7 @@ fn of_each(bench: &mut Bench, jobs: [Vec<Small>; 3], test: Test) -> Result<usize
 }
 
 /// Every order of the steps behind the first `begun`.
-fn all_orders(bench: &mut Bench, mut draft: Draft, begun: usize, test: Test) -> Result<usize, String> {
+pub(super) fn all_orders(bench: &mut Bench, mut draft: Draft, begun: usize, test: Test) -> Result<usize, String> {
     let mut count = 0;
     loop {
         count += test(bench, &draft, begun)?;
@@ -113,7 +113,7 @@ fn all_orders(bench: &mut Bench, mut draft: Draft, begun: usize, test: Test) -> 
 fn as_it_is(bench: &mut Bench, draft: &Draft, _: usize) -> Result<usize, String> {
     let stream = draft.stream();
     let file = sealed(&stream);
-    let seen = bench.compare.run(&stream, &file).map_err(|why| kept("order.job", &file, why))?;
+    let seen = bench.compare.run(&stream, &file, &[]).map_err(|why| kept("order.job", &file, why))?;
     bench.seen.add(&seen);
     Ok(1)
 }

@@ -1,7 +1,7 @@
 //! Faults by number, alone and in pairs and threes: the first condition in the paper's order decides, whatever else is wrong.
 
 use super::Bench;
-use crate::compare::{ENOUGH, Lent};
+use crate::compare::{ENOUGH, Lent, NUMBERS};
 use crate::damage::{self, FILE_NUMBERS, Fault, STREAM_NUMBERS};
 use crate::failure::kept;
 use crate::file::{FILE_LIMIT, PAYLOAD, WORK};
@@ -30,7 +30,7 @@ fn in_file(bench: &mut Bench, draft: &Draft, faults: &[Fault]) -> Result<(), Str
         return Err(kept("faults.job", &file, format!("{faults:?}: {answered} in place of {number}")));
     }
     let short = Lent { work: WORK - 1, ..ENOUGH };
-    let refused = bench.compare.replay(&file, short)?.number == 1 && bench.compare.read(&file, WORK - 1)?.number == 1;
+    let refused = bench.compare.replay(&file, &[], short)?.number == 1 && bench.compare.read(&file, WORK - 1)?.number == 1;
     if refused { Ok(()) } else { Err(kept("faults.job", &file, "short memory must decide".to_string())) }
 }
 
@@ -110,13 +110,13 @@ pub fn threes(bench: &mut Bench) -> Result<usize, String> {
     Ok(count)
 }
 
-/// Every number of the table was met: by replay and read 0 to 12, by write those it has.
+/// Every number of the tables was met: by replay 0 to 13, by read 0 to 12, by write those it has.
 pub fn met(bench: &mut Bench) -> Result<usize, String> {
     let [replay, read, write] = &bench.compare.met;
-    let met = |counts: &[usize; 13], numbers: &[u32]| numbers.iter().all(|&number| counts[number as usize] > 0);
+    let met = |counts: &[usize; NUMBERS], numbers: &[u32]| numbers.iter().all(|&number| counts[number as usize] > 0);
     println!("  replay {replay:?}\n  read {read:?}\n  write {write:?}");
     let files = [0, 1].iter().chain(&FILE_NUMBERS).copied().collect::<Vec<_>>();
     let streams = [0, 1].iter().chain(&STREAM_NUMBERS).copied().collect::<Vec<_>>();
-    let all = met(replay, &files) && met(read, &files) && met(write, &streams);
-    if all { Ok(2 * files.len() + streams.len()) } else { Err("a number was never met".to_string()) }
+    let all = met(replay, &files) && met(replay, &[13]) && met(read, &files) && met(write, &streams);
+    if all { Ok(2 * files.len() + streams.len() + 1) } else { Err("a number was never met".to_string()) }
 }

@@ -52,8 +52,8 @@ pub fn paper(bench: &mut Bench) -> Result<usize, String> {
         expect(*number, bench.compare.write(&stream, FILE_LIMIT)?.number, i)?;
     }
     let file = sealed(&full(1).stream());
-    expect(1, bench.compare.replay(&file, Lent { work: WORK - 1, ..ENOUGH })?.number, rows.len())?;
-    expect(0, bench.compare.replay(&file, ENOUGH)?.number, rows.len())?;
+    expect(1, bench.compare.replay(&file, &[], Lent { work: WORK - 1, ..ENOUGH })?.number, rows.len())?;
+    expect(0, bench.compare.replay(&file, &[], ENOUGH)?.number, rows.len())?;
     Ok(rows.len() + 2)
 }
 
@@ -85,7 +85,7 @@ fn entry_is(bench: &mut Bench, processes: u8, entry: u8, place: usize) -> Result
     expect(number, bench.compare.file(&file)?.number, place)?;
     expect(number, bench.compare.write(&stream, FILE_LIMIT)?.number, place)?;
     if number == 0 {
-        bench.seen.add(&bench.compare.run(&stream, &file)?);
+        bench.seen.add(&bench.compare.run(&stream, &file, &[])?);
     }
     Ok(())
 }

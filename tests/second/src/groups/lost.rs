@@ -2,7 +2,6 @@
 //! wrong, which the check must refuse.
 
 use super::Bench;
-use crate::calls::REPORT;
 use crate::check::parse::Report;
 use crate::check::{self, Facts, lost};
 use crate::failure::kept;
@@ -106,8 +105,8 @@ fn wrong_lines(report: &str) -> Vec<String> {
 fn explains(trace: &Trace, report: &str) -> Result<(), String> {
     let stream = trace.draft.stream();
     let job = Job::of_stream(&stream).map_err(|number| format!("no job: {number}"))?;
-    let (log, _) = check::logged(&job, &mut vec![0; REPORT]);
-    let facts = Facts::of(&job, &log)?;
+    let (log, _) = check::logged(&job, None);
+    let facts = Facts::of(&job, &check::windows::shut(&job, &[]), &log)?;
     check::explained(&job, &log, &facts, report.as_bytes()).map(drop)
 }
 

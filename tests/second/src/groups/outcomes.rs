@@ -2,7 +2,6 @@
 
 use super::Bench;
 use super::traces::report_is;
-use crate::calls::REPORT;
 use crate::check;
 use crate::file::sealed;
 use crate::job::Job;
@@ -109,7 +108,7 @@ fn latest(log: &Log, event: &Event, row: Row) -> Option<u16> {
 /// The outcomes that the steps of a job meet, by the second replayer's log, and how many operations it drops.
 fn met(stream: &[u8]) -> Result<(Vec<Outcome>, usize), String> {
     let job = Job::of_stream(stream).map_err(|number| format!("no job: {number}"))?;
-    let (log, _) = check::logged(&job, &mut vec![0; REPORT]);
+    let (log, _) = check::logged(&job, None);
     Ok((log.events.iter().map(|event| (event.row, way(&log, event))).collect(), log.drops.len()))
 }
 
@@ -120,7 +119,7 @@ pub fn proved(bench: &mut Bench) -> Result<usize, String> {
     for (trace, number) in traces.iter().zip(1..) {
         let (name, stream) = (format!("trace {number}"), trace.draft.stream());
         bench.compare.job(&stream).map_err(|why| format!("{name}: {why}"))?;
-        report_is(bench, &name, &sealed(&stream), trace.expected.as_bytes())?;
+        report_is(bench, &name, &sealed(&stream), &[], trace.expected.as_bytes())?;
         let (outcomes, drops) = met(&stream)?;
         all.extend(outcomes);
         dropped += drops;

@@ -1,4 +1,4 @@
-//! Lent memories of every length around the limits, with good and bad jobs.
+//! Lent memories of every length around the limits, with good and bad jobs and windows.
 
 use super::Bench;
 use crate::calls::REPORT;
@@ -20,12 +20,17 @@ pub fn all(bench: &mut Bench) -> Result<usize, String> {
     let mut count = 0;
     let draft = generate::job(9);
     let faults: Vec<_> = damage::fault(10, &draft, &mut random).into_iter().collect();
+    let block = generate::windows::windows(draft.schedule.len(), &mut random).block();
     for file in [damage::file(&draft, &[]), damage::file(&draft, &faults), vec![], damage::file(&samples::flood::hour(), &[])] {
         for work in around(WORK) {
             number_is(work < WORK, bench.compare.read(&file, work)?.number)?;
+            count += 1;
             for report in around(REPORT) {
-                number_is(work < WORK || report < REPORT, bench.compare.replay(&file, Lent { work, report })?.number)?;
-                count += 2;
+                let lent = Lent { work, report };
+                for windows in [&[], block.as_slice(), &block[1..]] {
+                    number_is(work < WORK || report < REPORT, bench.compare.replay(&file, windows, lent)?.number)?;
+                    count += 1;
+                }
             }
         }
     }

@@ -12,7 +12,7 @@ pub fn paper(bench: &mut Bench) -> Result<usize, String> {
     for trace in &traces {
         let stream = trace.draft.stream();
         bench.compare.job(&stream).map_err(|why| format!("{}: {why}", trace.name))?;
-        report_is(bench, trace.name, &sealed(&stream), trace.report.as_bytes())?;
+        report_is(bench, trace.name, &sealed(&stream), &[], trace.report.as_bytes())?;
     }
     Ok(traces.len())
 }
@@ -29,14 +29,21 @@ pub fn samples(bench: &mut Bench) -> Result<usize, String> {
             return Err(format!("examples/{name}.job is another job: sh tests/second/samples writes it"));
         }
         bench.compare.job(&draft.stream())?;
-        report_is(bench, name, &file, &read("txt")?)?;
+        report_is(bench, name, &file, &[], &read("txt")?)?;
+        for (_, windows, report) in samples::within().iter().filter(|(own, ..)| own == name) {
+            if (read("win")?, read("win.txt")?) != (windows.block().to_vec(), report.as_bytes().to_vec()) {
+                return Err(format!("examples/{name}.win is another block: sh tests/second/samples writes it"));
+            }
+            report_is(bench, name, &file, &windows.block(), report.as_bytes())?;
+        }
     }
     let full_size = |(_, draft): &(_, Draft)| sealed(&draft.stream()).len() == FILE_LIMIT;
     if samples.iter().any(full_size) { Ok(samples.len()) } else { Err("no sample is of full size".to_string()) }
 }
 
-pub(super) fn report_is(bench: &mut Bench, name: &str, file: &[u8], report: &[u8]) -> Result<(), String> {
-    let answer = bench.compare.replay(file, ENOUGH)?;
+/// Whether both sides give this report of a file within windows, or none.
+pub(super) fn report_is(bench: &mut Bench, name: &str, file: &[u8], windows: &[u8], report: &[u8]) -> Result<(), String> {
+    let answer = bench.compare.replay(file, windows, ENOUGH)?;
     let given = bench.compare.output(answer);
     if given == report { Ok(()) } else { Err(format!("{name}: the report is\n{}", String::from_utf8_lossy(given))) }
 }
