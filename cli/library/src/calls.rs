@@ -8,6 +8,8 @@ unsafe extern "C" {
     fn bench_replay(
         file: *const u8,
         file_length: usize,
+        windows: *const u8,
+        windows_length: usize,
         work: *mut u8,
         work_length: usize,
         report: *mut u8,
@@ -25,10 +27,21 @@ fn answer(answer: u64) -> Result<usize, Refusal> {
     }
 }
 
-/// The length of the report, which then stands in `report`.
-pub fn replay(file: &[u8], work: &mut [u8], report: &mut [u8]) -> Result<usize, Refusal> {
+/// The length of the report, which then stands in `report`. `windows` is a block, or empty.
+pub fn replay(file: &[u8], windows: &[u8], work: &mut [u8], report: &mut [u8]) -> Result<usize, Refusal> {
     // SAFETY: each pointer and length is one slice's, and the two that are written are lent to this call alone.
-    answer(unsafe { bench_replay(file.as_ptr(), file.len(), work.as_mut_ptr(), work.len(), report.as_mut_ptr(), report.len()) })
+    answer(unsafe {
+        bench_replay(
+            file.as_ptr(),
+            file.len(),
+            windows.as_ptr(),
+            windows.len(),
+            work.as_mut_ptr(),
+            work.len(),
+            report.as_mut_ptr(),
+            report.len(),
+        )
+    })
 }
 
 /// The stream in a file.

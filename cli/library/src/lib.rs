@@ -6,8 +6,11 @@
 //! - [`read()`] takes a job file and gives the [`Job`] in it;
 //! - [`write()`] takes a job and gives its file. One job has one file.
 //!
-//! Nothing that the library proves is worked out here: no sum, no step, no line of a report. What is here is memory for the calls, the
-//! fields of a job under names, and a report taken apart.
+//! A replay may be held to transmission windows, outside of which a process does nothing: [`replay_within()`] takes a window block beside the job
+//! file, [`read_windows()`] and [`write_windows()`] have its fields under names, and [`Hours`] tells which steps are shut.
+//!
+//! Nothing that the library proves is worked out here: no step, no line of a report, no date; of sums only those of a window block, which the
+//! library then checks. What is here is memory for the calls, the fields of a job and of a window block under names, and a report taken apart.
 //!
 //! ```
 //! use pigwazet::{Action, Job, Kind, Operation};
@@ -36,17 +39,22 @@
 //! assert_eq!(refusal.to_string(), "refused 2: the file's length is 0, over 17,920 bytes or not a multiple of 512");
 //! ```
 
+pub mod block;
 mod calls;
+mod hours;
 mod job;
 pub mod limits;
 mod memory;
 mod refusal;
 pub mod report;
+mod windows;
 
+pub use hours::Hours;
 pub use job::{Action, Job, Kind, Operation, Turn};
 pub use memory::Memory;
 pub use refusal::Refusal;
 pub use report::Report;
+pub use windows::{Start, Window, Windows};
 
 /// Replays the job in a file: the report that must come of it, or the refusal.
 ///
@@ -67,7 +75,28 @@ pub use report::Report;
 /// # Ok::<(), pigwazet::Refusal>(())
 /// ```
 pub fn replay(file: &[u8]) -> Result<Report, Refusal> {
-    Memory::new().replay(file).map(Report::of)
+    replay_within(file, &[])
+}
+
+/// The same within transmission windows: a step outside the window of its process is idle, a drop too, and keeps its number.
+///
+/// `windows` is a window block, or empty, which is no block and shuts nothing.
+///
+/// ```
+/// let job = include_bytes!("../../../examples/satellite.job");
+/// let block = include_bytes!("../../../examples/satellite.win");
+///
+/// // both uplinks would get reading 1, but the first one's booking ends before its last step
+/// assert_eq!(pigwazet::replay(job)?.run().takers(1), [2, 3]);
+/// assert_eq!(pigwazet::replay_within(job, block)?.run().takers(1), [3]);
+///
+/// // a job that is none is told first, then a block that is none
+/// assert_eq!(pigwazet::replay_within(b"no job", b"no block").unwrap_err().number(), 2);
+/// assert_eq!(pigwazet::replay_within(job, b"no block").unwrap_err().number(), 13);
+/// # Ok::<(), pigwazet::Refusal>(())
+/// ```
+pub fn replay_within(file: &[u8], windows: &[u8]) -> Result<Report, Refusal> {
+    Memory::new().replay_within(file, windows).map(Report::of)
 }
 
 /// Reads a job file: the job in it, or the refusal.
@@ -121,4 +150,50 @@ pub fn read(file: &[u8]) -> Result<Job, Refusal> {
 /// ```
 pub fn write(job: &Job) -> Result<Vec<u8>, Refusal> {
     calls::write(&job.stream())
+}
+
+/// Reads a window block: the windows in it, none if it is empty, or the refusal.
+///
+/// ```
+/// let block = include_bytes!("../../../examples/satellite.win");
+/// let windows = pigwazet::read_windows(block)?.unwrap();
+/// assert_eq!((windows.start.year, windows.start.month, windows.start.day), (2024, 2, 29));
+/// assert_eq!(windows.start.weekday()?, 3); // a Thursday
+/// assert_eq!(windows.entries[0], pigwazet::Window::ALWAYS);
+///
+/// assert_eq!(pigwazet::read_windows(&[])?, None);
+/// assert_eq!(pigwazet::read_windows(&block[1..]).unwrap_err().number(), 13);
+/// # Ok::<(), pigwazet::Refusal>(())
+/// ```
+pub fn read_windows(block: &[u8]) -> Result<Option<Windows>, Refusal> {
+    accepted(block)?;
+    Ok((!block.is_empty()).then(|| Windows::of_block(block)))
+}
+
+/// Writes windows: the one block that holds them, or the refusal of what is none.
+///
+/// ```
+/// use pigwazet::{Start, Window, Windows};
+///
+/// let mut windows = Windows { start: Start { year: 2026, month: 3, day: 1, second: 6 * 3600 }, entries: [Window::SHUT; 8] };
+/// windows.entries[0] = Window::ALWAYS;
+/// windows.entries[2] = Window { days: 0b001_1111, opening: 6 * 60, closing: 9 * 60 + 30 }; // Monday to Friday
+/// let block = pigwazet::write_windows(&windows)?;
+/// assert_eq!(pigwazet::read_windows(&block)?, Some(windows));
+///
+/// windows.start.month = 2;
+/// windows.start.day = 29; // 2026 has none
+/// assert_eq!(pigwazet::write_windows(&windows).unwrap_err().number(), 13);
+/// # Ok::<(), pigwazet::Refusal>(())
+/// ```
+pub fn write_windows(windows: &Windows) -> Result<[u8; limits::BLOCK], Refusal> {
+    let block = windows.block();
+    accepted(&block).map(|()| block)
+}
+
+/// No call looks at a window block alone: a job is replayed that nobody steps in.
+fn accepted(block: &[u8]) -> Result<(), Refusal> {
+    let operations = vec![Operation { process: 0, action: Action::Take }];
+    let still = Job { kind: Kind::Stack, processes: 1, operations, schedule: vec![] };
+    replay_within(&write(&still)?, block).map(drop)
 }

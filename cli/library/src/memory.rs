@@ -27,7 +27,12 @@ impl Memory {
 
     /// As [`crate::replay`], but the report's text stands in this memory, until the next call.
     pub fn replay(&mut self, file: &[u8]) -> Result<&str, Refusal> {
-        let length = calls::replay(file, &mut self.work, &mut self.report)?;
+        self.replay_within(file, &[])
+    }
+
+    /// As [`crate::replay_within`], likewise.
+    pub fn replay_within(&mut self, file: &[u8], windows: &[u8]) -> Result<&str, Refusal> {
+        let length = calls::replay(file, windows, &mut self.work, &mut self.report)?;
         Ok(std::str::from_utf8(&self.report[..length]).expect("a report is plain text"))
     }
 }

@@ -1,7 +1,10 @@
-//! Why a job is turned back: a number of document 01's table, and its sentence.
+//! Why a job, or the window block beside it, is turned back: a number of document 01's table, or document 02's, and its sentence.
 
 use std::error::Error;
 use std::fmt;
+
+/// What turns a window block back, where the job beside it is accepted.
+const WINDOWS: u32 = 13;
 
 /// The first condition met, in the order of document 01, by its number.
 #[derive(Clone, Copy, PartialEq, Eq, Hash, Debug)]
@@ -12,9 +15,14 @@ impl Refusal {
         Refusal(number)
     }
 
-    /// The number of the condition: 2 to 12, since this library lends memory enough.
+    /// The number of the condition: 2 to 13, since this library lends memory enough.
     pub fn number(self) -> u32 {
         self.0
+    }
+
+    /// Whether it is the window block that is refused; the job beside it is accepted then.
+    pub fn is_of_windows(self) -> bool {
+        self.0 == WINDOWS
     }
 
     /// The condition in words, of a file.
@@ -34,6 +42,9 @@ impl Refusal {
             }
             11 => "a schedule entry is neither a process of the job nor 128 + one, a drop",
             12 => "a byte behind the stream is not zero",
+            WINDOWS => {
+                "the window block is neither empty nor 512 bytes long, or has a wrong sum, number or field, no such date, or a byte behind its fields that is not zero"
+            }
             _ => "a number that this version does not know",
         }
     }

@@ -2,6 +2,7 @@
 
 mod parse;
 
+use crate::hours::Hours;
 use crate::job::{Job, Kind, Turn};
 use std::fmt;
 
@@ -69,10 +70,15 @@ impl Operation<'_> {
     /// The step in which it was dropped, if it was. A report does not tell the step, its job does: the first drop by the operation's process
     /// behind its first step.
     pub fn dropped_at(&self, job: &Job) -> Option<u16> {
+        self.dropped_within(job, &Hours::default())
+    }
+
+    /// The same of a replay within windows: a drop that is shut drops nothing.
+    pub fn dropped_within(&self, job: &Job, hours: &Hours) -> Option<u16> {
         let first = self.first.filter(|_| self.ending == Ending::Dropped)?;
         let drop = Turn::Drops(self.process).entry();
         let mut later = (1..).zip(&job.schedule).skip(usize::from(first));
-        later.find_map(|(step, &entry)| (entry == drop).then_some(step))
+        later.find_map(|(step, &entry)| (entry == drop && hours.is_open(self.process, step)).then_some(step))
     }
 }
 
