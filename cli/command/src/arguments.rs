@@ -4,8 +4,8 @@ use clap::{Args, Parser, Subcommand};
 use std::path::PathBuf;
 
 const STATUS: &str =
-    "Exit status: 0 all is well; 1 a job was refused; 2 wrong use, a wrong text, or something could not be read or written.
-FILE is a job file, or - for standard input. README.md begins with an example, docs/TEXT.md has the form of a job's text.";
+    "Exit status: 0 all is well; 1 a job or a window block was refused; 2 wrong use, a wrong text, or something could not be read or written.
+FILE is a job file, or - for standard input. README.md begins with an example, docs/TEXT.md has the forms of texts.";
 
 /// Replays jobs of puts and takes on a shared lock-free queue, stack or two-way linked stack and says what must have come of them.
 #[derive(Parser)]
@@ -33,12 +33,34 @@ pub enum Command {
         /// A job file, or - for standard input
         file: PathBuf,
     },
+    /// Make a window block from transmission windows written as text, or print one as text
+    #[command(
+        after_help = "Without --out, hour.windows becomes hour.win beside it; a file there that holds other windows is left alone.
+A process that no line names is shut: the line 'others always' has all such processes work at all times."
+    )]
+    Windows {
+        /// The text, or - for standard input: docs/TEXT.md. With --text, the block
+        #[arg(value_name = "TEXT")]
+        file: PathBuf,
+        /// Where the block goes; - for standard output
+        #[arg(short, long, value_name = "FILE", conflicts_with = "text")]
+        out: Option<PathBuf>,
+        /// Print a block as text, from which `windows` makes the very block
+        #[arg(long)]
+        text: bool,
+    },
     /// Print the report of a job file, or of many
     Replay(ReplayArguments),
-    /// Say in words why a job file is refused, where, and what to do
+    /// Say in words why a job file or a window block is refused, where, and what to do
+    #[command(
+        after_help = "Where neither is refused, it says who was shut out of which turns, and which of their operations did not end."
+    )]
     Why {
         /// A job file, or - for standard input
-        file: PathBuf,
+        #[arg(required_unless_present = "windows")]
+        file: Option<PathBuf>,
+        #[command(flatten)]
+        within: Within,
     },
     /// Tell the fate of one reading, or list the doubles
     Reading {
@@ -50,6 +72,8 @@ pub enum Command {
         /// All readings that were taken more than once
         #[arg(long)]
         doubles: bool,
+        #[command(flatten)]
+        within: Within,
     },
     /// Show the run step by step, in words
     #[command(
@@ -68,6 +92,8 @@ A lost round: a put or a take on a queue went back to Q1 or T1, its first row, t
         /// Up to this step
         #[arg(long, value_name = "B")]
         to: Option<u16>,
+        #[command(flatten)]
+        within: Within,
     },
     /// Draw the run as one page that any browser shows, without network
     #[command(after_help = "Without --out, hour.job becomes hour.html beside it.")]
@@ -77,7 +103,17 @@ A lost round: a put or a take on a queue went back to Q1 or T1, its first row, t
         /// Where the page goes; - for standard output
         #[arg(short, long, value_name = "FILE")]
         out: Option<PathBuf>,
+        #[command(flatten)]
+        within: Within,
     },
+}
+
+// what a replay is held to; a comment for the help would take the place of the subcommand's
+#[derive(Args)]
+pub struct Within {
+    /// A window block, or - for standard input: outside its window a process does nothing
+    #[arg(long, value_name = "FILE")]
+    pub windows: Option<PathBuf>,
 }
 
 #[derive(Args)]
@@ -95,4 +131,6 @@ pub struct ReplayArguments {
     /// One text file a job below FOLDER, in place of standard output
     #[arg(long, value_name = "FOLDER")]
     pub out: Option<PathBuf>,
+    #[command(flatten)]
+    pub within: Within,
 }

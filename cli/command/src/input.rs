@@ -2,7 +2,8 @@
 
 use crate::names::shown;
 use crate::status::{Failure, say};
-use pigwazet::{Job, Refusal, Report};
+use crate::turns::Turns;
+use pigwazet::{Refusal, Report};
 use std::fs::File;
 use std::io::{self, Read};
 use std::path::Path;
@@ -44,6 +45,17 @@ pub fn job(path: &Path) -> Result<Vec<u8>, Failure> {
     whole(path, MOST)
 }
 
+/// A window block, whatever it holds; empty, which is none, where none is named.
+pub fn block(path: Option<&Path>) -> Result<Vec<u8>, Failure> {
+    path.map_or(Ok(vec![]), |path| whole(path, MOST))
+}
+
+/// Of all that a command is to read, one at most is standard input.
+pub fn apart<'a>(paths: impl IntoIterator<Item = &'a Path>) -> Result<(), Failure> {
+    let standard = paths.into_iter().filter(|path| is_standard(path)).count();
+    if standard > 1 { Err(Failure("Standard input can be read only once.".to_string())) } else { Ok(()) }
+}
+
 /// A file that must be read to its end: one that is longer than `most` MiB is an error.
 pub fn all(path: &Path, most: u64) -> Result<Vec<u8>, Failure> {
     let bytes = whole(path, (most << 20) + 1)?;
@@ -53,31 +65,36 @@ pub fn all(path: &Path, most: u64) -> Result<Vec<u8>, Failure> {
     Ok(bytes)
 }
 
-/// A text.
-pub fn text(path: &Path) -> Result<String, Failure> {
+/// A text; `otherwise` is what it may be if it is none, and what to do then.
+pub fn text(path: &Path, otherwise: &str) -> Result<String, Failure> {
     let bytes = all(path, 16)?;
-    let other =
-        || Failure(format!("{} is no text. If it is a job file, it is made already: `bench text` prints it.", name(path)));
+    let other = || Failure(format!("{} is no text. If it is {otherwise}.", name(path)));
     if looks_like_text(&bytes) { String::from_utf8(bytes).map_err(|_| other()) } else { Err(other()) }
 }
 
-/// A job file may be valid as text, but has zeros.
+/// A job file or a window block may be valid as text, but has zeros.
 pub fn looks_like_text(bytes: &[u8]) -> bool {
     std::str::from_utf8(bytes).is_ok() && !bytes.contains(&0)
 }
 
-/// What a call makes of a job file; none where it refuses it, which is then said.
-pub fn accepted<T>(path: &Path, call: impl FnOnce(&[u8]) -> Result<T, Refusal>) -> Result<Option<T>, Failure> {
-    let answer = call(&job(path)?);
-    Ok(answer.map_err(|refusal| refused(path, refusal)).ok())
+/// What a call makes of a job file and the window block beside it; none where it refuses one of them, which is then said.
+pub fn accepted<T>(
+    path: &Path,
+    windows: Option<&Path>,
+    call: impl FnOnce(&[u8], &[u8]) -> Result<T, Refusal>,
+) -> Result<Option<T>, Failure> {
+    apart([path].into_iter().chain(windows))?;
+    let (file, block) = (job(path)?, block(windows)?);
+    Ok(call(&file, &block).map_err(|refusal| refused(path, windows, refusal)).ok())
 }
 
-/// The job in a file, and its report.
-pub fn replayed(file: &[u8]) -> Result<(Job, Report), Refusal> {
-    Ok((pigwazet::read(file)?, pigwazet::replay(file)?))
+/// The turns of the job in a file, and its report.
+pub fn replayed(file: &[u8], block: &[u8]) -> Result<(Turns, Report), Refusal> {
+    Ok((Turns::of(file, block)?, pigwazet::replay_within(file, block)?))
 }
 
-/// Says that a job file is refused, where a command needed an accepted one.
-pub fn refused(path: &Path, refusal: Refusal) {
+/// Says that a job file or a window block is refused, where a command needed accepted ones.
+pub fn refused(path: &Path, windows: Option<&Path>, refusal: Refusal) {
+    let path = windows.filter(|_| refusal.is_of_windows()).unwrap_or(path);
     say(&format!("{}: {refusal}. `bench why` says more.", name(path)));
 }

@@ -2,6 +2,7 @@
 
 pub mod arguments;
 pub mod input;
+pub mod lines;
 pub mod make;
 pub mod names;
 pub mod output;
@@ -11,5 +12,7 @@ pub mod replay;
 pub mod status;
 pub mod steps;
 pub mod text;
+pub mod turns;
 pub mod why;
+pub mod windows;
 pub mod words;

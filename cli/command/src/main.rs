@@ -2,7 +2,8 @@
 
 use bench_command::arguments::{Arguments, Command};
 use bench_command::status::{Failure, Status, say};
-use bench_command::{make, picture, reading, replay, steps, text, why};
+use bench_command::steps::Asked;
+use bench_command::{make, picture, reading, replay, steps, text, why, windows};
 use clap::Parser;
 use std::io::{self, Write};
 use std::process::ExitCode;
@@ -32,10 +33,12 @@ fn run(command: Command) -> Result<Status, Failure> {
     match command {
         Command::Make { text, out } => make::run(&text, out.as_deref()),
         Command::Text { file } => text::run(&file),
+        Command::Windows { file, text: true, .. } => windows::text(&file),
+        Command::Windows { file, out, .. } => windows::run(&file, out.as_deref()),
         Command::Replay(arguments) => replay::run(&arguments),
-        Command::Why { file } => why::run(&file),
-        Command::Reading { file, number, .. } => reading::run(&file, number),
-        Command::Steps { file, op, from, to } => steps::run(&file, op, from, to),
-        Command::Picture { file, out } => picture::run(&file, out.as_deref()),
+        Command::Why { file, within } => why::run(file.as_deref(), within.windows.as_deref()),
+        Command::Reading { file, number, within, .. } => reading::run(&file, within.windows.as_deref(), number),
+        Command::Steps { file, op, from, to, within } => steps::run(&file, within.windows.as_deref(), Asked { op, from, to }),
+        Command::Picture { file, out, within } => picture::run(&file, within.windows.as_deref(), out.as_deref()),
     }
 }

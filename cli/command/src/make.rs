@@ -1,36 +1,29 @@
 //! `bench make`: a job written as text becomes its job file.
 
-use crate::names::{excerpt, shown, with_ending};
+use crate::names::shown;
 use crate::status::{Failure, Status, say};
-use crate::text::parse::{self, Fault};
+use crate::text::parse;
 use crate::words::counted;
-use crate::{input, output};
+use crate::{input, lines, output};
 use pigwazet::{Job, Turn};
 use std::path::Path;
 
-/// How many wrong lines are told.
-const TOLD: usize = 20;
+/// What to do where the file that is to be made is there already.
+pub const REMEDY: &str = "name the file with --out to replace it";
 
 pub fn run(text: &Path, out: Option<&Path>) -> Result<Status, Failure> {
     let name = input::name(text);
-    let source = input::text(text)?;
-    let job = parse::job(&source).map_err(|faults| told(&name, &source, &faults))?;
+    let source = input::text(text, "a job file, it is made already: `bench text` prints it")?;
+    let job = parse::job(&source).map_err(|faults| lines::told(&name, &source, &faults))?;
     let file = pigwazet::write(&job).map_err(|refusal| Failure(format!("{name}: {refusal}")))?;
-    match out {
-        Some(out) if input::is_standard(out) => output::print(&file)?,
-        None if input::is_standard(text) => output::print(&file)?,
-        Some(out) => made(out, &job, output::named(out, &file))?,
-        None => {
-            let out = with_ending(text, "txt", "job");
-            made(&out, &job, output::unnamed(&out, &file, <[u8]>::is_empty, "name the file with --out to replace it"))?;
-        }
+    if let Some(made) = output::made((text, out), ["txt", "job"], &file, <[u8]>::is_empty, REMEDY)? {
+        say(&format!("{}: {}", shown(&made), told(&job)));
     }
     Ok(Status::Fine)
 }
 
-/// Says what was made.
-fn made(out: &Path, job: &Job, written: Result<(), Failure>) -> Result<(), Failure> {
-    written?;
+/// What was made.
+fn told(job: &Job) -> String {
     let processes = counted(usize::from(job.processes), "process", "processes");
     let operations = counted(job.operations.len(), "operation", "operations");
     let steps = counted(job.schedule.len(), "step", "steps");
@@ -38,21 +31,5 @@ fn made(out: &Path, job: &Job, written: Result<(), Failure>) -> Result<(), Failu
         0 => String::new(),
         some => format!(" with {}", counted(some, "drop", "drops")),
     };
-    say(&format!("{}: {}, {processes}, {operations}, {steps}{drops}", shown(out), job.kind.noun()));
-    Ok(())
-}
-
-/// The wrong lines, each with what was found, what is allowed, and the line.
-fn told(name: &str, source: &str, faults: &[Fault]) -> Failure {
-    let mut lines = vec![];
-    for fault in faults.iter().take(TOLD) {
-        lines.push(format!("{name}:{}: {}", fault.line, fault.wrong));
-        if let Some(line) = source.lines().nth(fault.line - 1) {
-            lines.push(format!("    {}", excerpt(line.trim())));
-        }
-    }
-    if faults.len() > TOLD {
-        lines.push(format!("and {} more", counted(faults.len() - TOLD, "line", "lines")));
-    }
-    Failure(lines.join("\n"))
+    format!("{}, {processes}, {operations}, {steps}{drops}", job.kind.noun())
 }

@@ -1,12 +1,13 @@
 //! Writing what a command makes, whole or not at all.
 
-use crate::names::shown;
+use crate::input::is_standard;
+use crate::names::{shown, with_ending};
 use crate::status::Failure;
 use std::collections::hash_map::RandomState;
 use std::fs;
 use std::hash::BuildHasher;
 use std::io::{self, ErrorKind, Write};
-use std::path::Path;
+use std::path::{Path, PathBuf};
 use std::sync::OnceLock;
 use std::sync::atomic::{AtomicUsize, Ordering};
 
@@ -18,6 +19,26 @@ pub fn print(bytes: impl AsRef<[u8]>) -> Result<(), Failure> {
         ErrorKind::BrokenPipe => Failure(String::new()),
         _ => Failure(format!("Standard output could not be written: {why}.")),
     })
+}
+
+/// What is made of an input: to the file that the user named, or beside the input, with another ending, where `replaceable` says what may be
+/// replaced there; to standard output, if it is named or the input is standard input. Gives the file's name, if it is in one.
+pub fn made(
+    (input, out): (&Path, Option<&Path>),
+    [old, new]: [&str; 2],
+    bytes: &[u8],
+    replaceable: impl FnOnce(&[u8]) -> bool,
+    remedy: &str,
+) -> Result<Option<PathBuf>, Failure> {
+    match out {
+        Some(out) if is_standard(out) => print(bytes).map(|()| None),
+        None if is_standard(input) => print(bytes).map(|()| None),
+        Some(out) => named(out, bytes).map(|()| Some(out.to_path_buf())),
+        None => {
+            let out = with_ending(input, old, new);
+            unnamed(&out, bytes, replaceable, remedy).map(|()| Some(out))
+        }
+    }
 }
 
 /// To a file that the user named. A link is followed; what is no plain file, as a pipe or a device, is written as it stands.

@@ -1,11 +1,11 @@
-//! `bench picture`: the run as one page, made from the report; when an operation was dropped, the job tells.
+//! `bench picture`: the run as one page, made from the report; when an operation was dropped, the job tells, and what was shut, the windows.
 
 pub mod model;
 
-use crate::names::{shown, with_ending};
+use crate::names::shown;
 use crate::status::{Failure, Status, say};
+use crate::turns::Turns;
 use crate::{input, output};
-use pigwazet::Job;
 use pigwazet::report::Run;
 use std::path::Path;
 
@@ -22,27 +22,15 @@ const SCRIPT: [&str; 8] = [
     include_str!("picture/script/start.js"),
 ];
 
-pub fn run(path: &Path, out: Option<&Path>) -> Result<Status, Failure> {
-    let Some((job, report)) = input::accepted(path, input::replayed)? else { return Ok(Status::Refused) };
+pub fn run(path: &Path, windows: Option<&Path>, out: Option<&Path>) -> Result<Status, Failure> {
+    let Some((turns, report)) = input::accepted(path, windows, input::replayed)? else { return Ok(Status::Refused) };
     let name = path.file_name().map_or("-".into(), |name| name.to_string_lossy());
-    let page = page(&name, &job, &report.run());
-    match out {
-        Some(out) if input::is_standard(out) => output::print(page)?,
-        None if input::is_standard(path) => output::print(page)?,
-        Some(out) => made(out, output::named(out, page.as_bytes()))?,
-        None => {
-            let out = with_ending(path, "job", "html");
-            let written = output::unnamed(&out, page.as_bytes(), is_picture, "name the page with --out to replace it");
-            made(&out, written)?;
-        }
+    let page = page(&name, &turns, &report.run());
+    let remedy = "name the page with --out to replace it";
+    if let Some(made) = output::made((path, out), ["job", "html"], page.as_bytes(), is_picture, remedy)? {
+        say(&format!("{}: open it in a browser", shown(&made)));
     }
     Ok(Status::Fine)
-}
-
-fn made(out: &Path, written: Result<(), Failure>) -> Result<(), Failure> {
-    written?;
-    say(&format!("{}: open it in a browser", shown(out)));
-    Ok(())
 }
 
 /// A page begins with the first line of the template, which names the bench.
@@ -51,22 +39,22 @@ fn is_picture(bytes: &[u8]) -> bool {
 }
 
 /// The whole page of a run: the template with its holes filled. What is filled in is not looked through again.
-pub fn page(name: &str, job: &Job, run: &Run) -> String {
+pub fn page(name: &str, turns: &Turns, run: &Run) -> String {
     let mut page = String::new();
     for part in PAGE.split("{{") {
         let (hole, rest) = part.split_once("}}").unwrap_or(("", part));
-        page += &filling(hole, name, job, run);
+        page += &filling(hole, name, turns, run);
         page += rest;
     }
     page
 }
 
-fn filling(hole: &str, name: &str, job: &Job, run: &Run) -> String {
+fn filling(hole: &str, name: &str, turns: &Turns, run: &Run) -> String {
     match hole {
         "title" => escaped(name),
         "style" => STYLE.to_string(),
         "script" => SCRIPT.concat(),
-        "run" => model::json(name, job, run),
+        "run" => model::json(name, turns, run),
         _ => String::new(),
     }
 }

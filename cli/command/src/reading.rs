@@ -1,18 +1,20 @@
-//! `bench reading`: the fate of one reading, or all doubles, from the report; when an operation was dropped, the job tells.
+//! `bench reading`: the fate of one reading, or all doubles, from the report; when an operation was dropped, the job tells, and out of which
+//! turns one was shut, the windows.
 
 use crate::status::{Failure, Status};
+use crate::turns::Turns;
 use crate::words::{counted, list};
 use crate::{input, output};
+use pigwazet::Kind;
 use pigwazet::report::{Action, Ending, Operation, Run};
-use pigwazet::{Job, Kind};
 use std::path::Path;
 
-pub fn run(path: &Path, number: Option<u16>) -> Result<Status, Failure> {
-    let Some((job, report)) = input::accepted(path, input::replayed)? else { return Ok(Status::Refused) };
+pub fn run(path: &Path, windows: Option<&Path>, number: Option<u16>) -> Result<Status, Failure> {
+    let Some((turns, report)) = input::accepted(path, windows, input::replayed)? else { return Ok(Status::Refused) };
     let run = report.run();
     let lines = match number {
-        Some(number) => fate(&job, &run, number).ok_or_else(|| Failure(no_reading(&run, number)))?,
-        None => doubles(&job, &run),
+        Some(number) => fate(&turns, &run, number).ok_or_else(|| Failure(no_reading(&run, number)))?,
+        None => doubles(&turns, &run),
     };
     output::print(lines.join("\n") + "\n").map(|()| Status::Fine)
 }
@@ -45,20 +47,20 @@ pub fn end(kind: Kind) -> &'static str {
 }
 
 /// The fate of a reading, in sentences; none if it is no put of the run.
-pub fn fate(job: &Job, run: &Run, item: u16) -> Option<Vec<String>> {
+pub fn fate(turns: &Turns, run: &Run, item: u16) -> Option<Vec<String>> {
     let put = run.operation(item)?;
     let Action::Put(value) = put.action else { return None };
     let object = run.kind.noun();
     let by = if put.first.is_some() { "put by" } else { "to be put by" };
-    let mut lines = vec![format!("Reading {item}: {value} cm, {by} {}.", operation_told(job, put)), coming(run, put)];
+    let mut lines = vec![format!("Reading {item}: {value} cm, {by} {}.", operation_told(turns, put)), coming(run, put)];
     if let Some(place) = run.left.iter().position(|&left| left == item) {
         let (place, all, end) = (place + 1, run.left.len(), end(run.kind));
         lines.push(format!("Nobody took it. It is still in the {object}: place {place} of {all} from the {end}."));
     }
     if let Some(line) = run.taken(item) {
         let takers = takers(run, item);
-        lines.push(format!("The record has it going out at step {}, to {}.", line.at, all_told(job, &takers)));
-        lines.push(how_often(job, &takers));
+        lines.push(format!("The record has it going out at step {}, to {}.", line.at, all_told(turns, &takers)));
+        lines.push(how_often(turns, &takers));
     }
     Some(lines)
 }
@@ -81,31 +83,32 @@ fn takers<'a>(run: &'a Run, item: u16) -> Vec<&'a Operation<'a>> {
     run.takers(item).iter().filter_map(|&taker| run.operation(taker)).collect()
 }
 
-fn all_told(job: &Job, operations: &[&Operation]) -> String {
-    list(&operations.iter().map(|operation| operation_told(job, operation)).collect::<Vec<_>>())
+fn all_told(turns: &Turns, operations: &[&Operation]) -> String {
+    list(&operations.iter().map(|operation| operation_told(turns, operation)).collect::<Vec<_>>())
 }
 
 /// An operation, its process and its interval.
-fn operation_told(job: &Job, operation: &Operation) -> String {
+fn operation_told(turns: &Turns, operation: &Operation) -> String {
     let who = format!("operation {} of process {}", operation.number, operation.process);
-    match (operation.first, operation.last, operation.dropped_at(job)) {
+    let shut = turns.shut_out(operation).map_or(String::new(), |turns| format!("; {turns}"));
+    match (operation.first, operation.last, turns.dropped_at(operation)) {
         (Some(first), Some(last), _) if first == last => format!("{who} (step {first})"),
         (Some(first), Some(last), _) => format!("{who} (steps {first} to {last})"),
         (Some(first), None, Some(drop)) => format!("{who} (begun at step {first}, dropped at step {drop})"),
-        (Some(first), None, None) => format!("{who} (open since step {first})"),
-        _ => format!("{who} (not begun)"),
+        (Some(first), None, None) => format!("{who} (open since step {first}{shut})"),
+        _ => format!("{who} (not begun{shut})"),
     }
 }
 
 /// Once, or more than once and by which overlap; and whether somebody has it at all.
-fn how_often(job: &Job, takers: &[&Operation]) -> String {
+fn how_often(turns: &Turns, takers: &[&Operation]) -> String {
     let of = |ending: Ending| takers.iter().filter(|taker| taker.ending == ending).count();
     match (takers.len(), of(Ending::Open), of(Ending::Dropped)) {
         (1, 0, 0) => "It was taken once: no double.".to_string(),
         (1, _, 0) => "That one has claimed it and is open, so nobody has it yet.".to_string(),
         (1, ..) => "That one had claimed it and was dropped, so nobody got it.".to_string(),
         (many, open, dropped) => {
-            format!("A double: the {many} takers overlap {}.{}", overlap(job, takers), without(many, open, dropped))
+            format!("A double: the {many} takers overlap {}.{}", overlap(turns, takers), without(many, open, dropped))
         }
     }
 }
@@ -125,21 +128,21 @@ fn without(takers: usize, open: usize, dropped: usize) -> &'static str {
 
 /// The steps that lie in the intervals of all takers, that of a dropped one up to its drop: intervals that overlap two by two have some in
 /// common.
-fn overlap(job: &Job, takers: &[&Operation]) -> String {
+fn overlap(turns: &Turns, takers: &[&Operation]) -> String {
     let from = takers.iter().filter_map(|taker| taker.first).max().unwrap_or_default();
-    match takers.iter().filter_map(|taker| taker.last.or(taker.dropped_at(job))).min() {
+    match takers.iter().filter_map(|taker| taker.last.or(turns.dropped_at(taker))).min() {
         Some(to) => format!("from step {from} to step {to}"),
         None => format!("from step {from} on"),
     }
 }
 
 /// A line for each reading that was taken more than once, in the order of their numbers, and how many they are.
-fn doubles(job: &Job, run: &Run) -> Vec<String> {
+fn doubles(turns: &Turns, run: &Run) -> Vec<String> {
     let mut lines = vec![];
     let doubled: Vec<u16> = run.doubles().collect();
     for (item, value) in readings(run).filter(|(item, _)| doubled.contains(item)) {
         let takers = takers(run, item);
-        let (all, overlap) = (all_told(job, &takers), overlap(job, &takers));
+        let (all, overlap) = (all_told(turns, &takers), overlap(turns, &takers));
         lines.push(format!("Reading {item}: {value} cm, to {all}; they overlap {overlap}."));
     }
     let all = counted(readings(run).count(), "reading", "readings");

@@ -10,6 +10,7 @@ use crate::{input, output};
 use answer::{Answer, Tally, Worker};
 use indicatif::{ProgressBar, ProgressStyle};
 use inputs::Input;
+use pigwazet::Refusal;
 use rayon::prelude::*;
 use std::collections::BTreeSet;
 use std::fs;
@@ -21,28 +22,31 @@ const REPORTS_AT_ONCE: usize = 1_024;
 const LINES_AT_ONCE: usize = 65_536;
 
 pub fn run(arguments: &ReplayArguments) -> Result<Status, Failure> {
-    let inputs = inputs::all(&arguments.files, arguments.files_from.as_deref())?;
+    let (list, windows) = (arguments.files_from.as_deref(), arguments.within.windows.as_deref());
+    input::apart(arguments.files.iter().map(PathBuf::as_path).chain(list).chain(windows))?;
+    let inputs = inputs::all(&arguments.files, list)?;
+    let block = input::block(windows)?;
     let out = arguments.out.as_deref();
-    match (out, &arguments.files[..], &arguments.files_from) {
-        (None, [file], None) if !file.is_dir() => single(&inputs[0], file),
-        _ => several(&inputs, out),
+    match (out, &arguments.files[..], list) {
+        (None, [file], None) if !file.is_dir() => single(&inputs[0], &block, |refusal| input::refused(file, windows, refusal)),
+        _ => several(&inputs, &block, out),
     }
 }
 
 /// One job: its report or its refusal, as document 01 has it, and nothing else on standard output.
-fn single(input: &Input, file: &Path) -> Result<Status, Failure> {
-    match Worker::default().answer(input, None) {
+fn single(input: &Input, block: &[u8], told: impl FnOnce(Refusal)) -> Result<Status, Failure> {
+    match Worker::default().answer(input, block, None) {
         Answer::Replayed(report) => output::print(report).map(|()| Status::Fine),
         Answer::Refused(refusal) => {
             output::print(format!("refused {}\n", refusal.number()))?;
-            input::refused(file, refusal);
+            told(refusal);
             Ok(Status::Refused)
         }
         Answer::Failed(why) => Err(Failure(why)),
     }
 }
 
-fn several(inputs: &[Input], out: Option<&Path>) -> Result<Status, Failure> {
+fn several(inputs: &[Input], block: &[u8], out: Option<&Path>) -> Result<Status, Failure> {
     out.map_or(Ok(()), |folder| folders(folder, inputs))?;
     // the lines of files that went well are for programs
     let attended = io::stdout().is_terminal();
@@ -50,7 +54,7 @@ fn several(inputs: &[Input], out: Option<&Path>) -> Result<Status, Failure> {
     let mut tally = Tally::default();
     for some in inputs.chunks(if out.is_some() { LINES_AT_ONCE } else { REPORTS_AT_ONCE }) {
         let answer = |worker: &mut Worker, input: &Input| {
-            let answer = worker.answer(input, out);
+            let answer = worker.answer(input, block, out);
             bar.inc(1);
             answer
         };

@@ -5,27 +5,37 @@ mod drops;
 mod lost;
 
 use crate::status::{Failure, Status, say};
+use crate::turns::Turns;
 use crate::words::counted;
 use crate::{input, output};
-use pigwazet::{Job, Kind, Turn};
+use pigwazet::{Kind, Turn};
 use second_replayer::calls::REPORT;
 use second_replayer::file::{self, WORK};
 use second_replayer::machine::{Answer, NONE};
 use second_replayer::report;
 use second_replayer::watch::{self, Cell, Event, Log, Row};
+use second_replayer::windows::Windows;
 use std::ops::RangeInclusive;
 use std::path::Path;
 
-pub fn run(path: &Path, op: Option<u16>, from: u16, to: Option<u16>) -> Result<Status, Failure> {
-    let both = |file: &[u8]| Ok((pigwazet::read(file)?, pigwazet::replay(file)?, second(file)));
-    let Some((job, proved, second)) = input::accepted(path, both)? else { return Ok(Status::Refused) };
-    let operations = job.operations.len();
+/// Which steps are asked for.
+pub struct Asked {
+    /// Those of an operation.
+    pub op: Option<u16>,
+    pub from: u16,
+    pub to: Option<u16>,
+}
+
+pub fn run(path: &Path, windows: Option<&Path>, Asked { op, from, to }: Asked) -> Result<Status, Failure> {
+    let both = |file: &[u8], block: &[u8]| Ok((input::replayed(file, block)?, second(file, block)));
+    let Some(((turns, proved), second)) = input::accepted(path, windows, both)? else { return Ok(Status::Refused) };
+    let operations = turns.job.operations.len();
     if op.is_some_and(|op| !(1..=operations).contains(&usize::from(op))) {
         return Err(Failure(format!("--op is one of the job's operations, 1 to {operations}.")));
     }
-    let range = range(from, to, job.schedule.len())?;
-    let log = agreed(second, proved.as_str())?;
-    let text = told(&job, &log, op, &range);
+    let range = range(from, to, turns.job.schedule.len())?;
+    let log = agreed(second, &turns, proved.as_str())?;
+    let text = told(&turns, &log, op, &range);
     output::print(&text)?;
     if text.lines().count() == 1 {
         say(&op.map_or("The job has no steps.".to_string(), |op| format!("Operation {op} made no step there.")));
@@ -43,21 +53,27 @@ fn range(from: u16, to: Option<u16>, steps: usize) -> Result<RangeInclusive<u16>
     Err(Failure(format!("The job has {}, counted from 1; --from is not past --to.", counted(steps, "step", "steps"))))
 }
 
-/// The second replayer's report of a file, with the log of its steps; none if it refuses the file.
-pub fn second(file: &[u8]) -> Option<(Log, Vec<u8>)> {
+/// The second replayer's report of a file, with the log of its steps; none if it refuses the file or the window block.
+pub fn second(file: &[u8], block: &[u8]) -> Option<(Log, Vec<u8>)> {
     let mut work = vec![0; WORK];
     let (job, _) = file::open(file, &mut work).ok()?;
+    let windows = Windows::read(block).ok()?;
     let mut log = Log::default();
     let mut memory = vec![0; REPORT];
-    let length = report::replay_watched(&job, &mut memory, &mut log);
+    let length = report::replay_watched(&job, windows.as_ref(), &mut memory, &mut log);
     memory.truncate(length);
     Some((log, memory))
 }
 
-/// The log, if the second replayer's report is the proved one, byte for byte, and its steps lose as many rounds as that says.
-pub fn agreed(second: Option<(Log, Vec<u8>)>, proved: &str) -> Result<Log, Failure> {
+/// The log, if the second replayer's report is the proved one, byte for byte, its steps lose as many rounds as that says, and those that it
+/// has shut are those that the library has.
+pub fn agreed(second: Option<(Log, Vec<u8>)>, turns: &Turns, proved: &str) -> Result<Log, Failure> {
+    let agrees = |log: &Log, report: &[u8]| {
+        let shut = turns.shut().map(|(step, _)| step);
+        report == proved.as_bytes() && lost::agrees(log, proved) && shut.eq(log.shut.iter().copied())
+    };
     match second {
-        Some((log, report)) if report == proved.as_bytes() && lost::agrees(&log, proved) => Ok(log),
+        Some((log, report)) if agrees(&log, &report) => Ok(log),
         _ => Err(Failure(
             "The second replayer's steps do not come to the proved report, so they are not shown. Please keep the file and tell the makers of the bench."
                 .to_string(),
@@ -66,23 +82,25 @@ pub fn agreed(second: Option<(Log, Vec<u8>)>, proved: &str) -> Result<Log, Failu
 }
 
 /// A line for each step asked for.
-pub fn told(job: &Job, log: &Log, op: Option<u16>, range: &RangeInclusive<u16>) -> String {
+pub fn told(turns: &Turns, log: &Log, op: Option<u16>, range: &RangeInclusive<u16>) -> String {
     let mut text = row("step", "process", "operation", "row", "what");
     let mut events = log.events.iter().peekable();
     let mut drops = log.drops.iter().peekable();
+    let mut shut = log.shut.iter().peekable();
     let mut rounds = 0;
-    for (&entry, step) in job.schedule.iter().zip(1u16..) {
+    for (step, turn) in turns.all() {
         let came = match (events.next_if(|event| event.step == step), drops.next_if(|drop| drop.step == step)) {
             (Some(event), _) => {
                 rounds += u16::from(lost::back_to(event).is_some());
                 Came::Act(event, rounds)
             }
             (None, Some(drop)) => Came::Drop(drop),
+            (None, None) if shut.next_if_eq(&&step).is_some() => Came::Shut,
             (None, None) => Came::Nothing,
         };
         let asked = op.is_none_or(|op| came.operation() == Some(op));
         if asked && range.contains(&step) {
-            text += &line(job, log, step, Turn::of(entry), &came);
+            text += &line(turns, log, step, turn, &came);
         }
     }
     text
@@ -93,6 +111,8 @@ enum Came<'a> {
     /// The step, and the rounds lost by then, its own among them.
     Act(&'a Event, u16),
     Drop(&'a watch::Drop),
+    /// It fell outside the window of its process.
+    Shut,
     /// It was idle.
     Nothing,
 }
@@ -102,29 +122,37 @@ impl Came<'_> {
         match self {
             Came::Act(event, _) => Some(event.operation),
             Came::Drop(drop) => Some(drop.operation),
-            Came::Nothing => None,
+            Came::Shut | Came::Nothing => None,
         }
     }
 }
 
-/// What stands for the row in a drop, which runs none.
+/// What stands for the row in a drop, which runs none, and in a step that is shut.
 const DROP: &str = "x";
+const SHUT: &str = "/";
 
 fn row(step: &str, process: &str, operation: &str, row: &str, what: &str) -> String {
     format!("{step:>5}  {process:>7}  {operation:>9}  {row:3}  {what}\n")
 }
 
-fn line(job: &Job, log: &Log, step: u16, turn: Turn, came: &Came) -> String {
-    let (step, process) = (step.to_string(), turn.process().to_string());
+fn line(turns: &Turns, log: &Log, number: u16, turn: Turn, came: &Came) -> String {
+    let (step, process) = (number.to_string(), turn.process().to_string());
     let operation = came.operation().map_or("-".to_string(), |operation| operation.to_string());
     match (came, turn) {
         (Came::Act(event, rounds), _) => {
-            row(&step, &process, &operation, &format!("{:?}", event.row), &what(job.kind, event, *rounds))
+            row(&step, &process, &operation, &format!("{:?}", event.row), &what(turns.job.kind, event, *rounds))
         }
-        (Came::Drop(drop), _) => row(&step, &process, &operation, DROP, &drops::told(job, log, drop)),
+        (Came::Drop(drop), _) => row(&step, &process, &operation, DROP, &drops::told(&turns.job, log, drop)),
+        (Came::Shut, _) => row(&step, &process, &operation, SHUT, &shut(turns, number, turn)),
         (Came::Nothing, Turn::Drops(_)) => row(&step, &process, &operation, DROP, "idle: no begun operation to drop"),
         (Came::Nothing, Turn::Acts(_)) => row(&step, &process, &operation, "-", "idle: no operation remains"),
     }
+}
+
+/// Why a step was shut, and of a drop that nothing came of it.
+fn shut(turns: &Turns, step: u16, turn: Turn) -> String {
+    let drop = if matches!(turn, Turn::Drops(_)) { ", so nothing is dropped" } else { "" };
+    format!("shut: {}{drop}", turns.outside(step, turn.process()))
 }
 
 /// What a step read or changed, and what came of it; of one that goes back, which of the run's lost rounds it is.
@@ -153,18 +181,34 @@ fn what(kind: Kind, event: &Event, rounds: u16) -> String {
 mod tests {
     use super::*;
 
+    /// The turns of a sample, its proved report and what the second replayer has, without windows.
+    fn listing() -> (Turns, String, Option<(Log, Vec<u8>)>) {
+        let file = include_bytes!("../../../examples/listing.job");
+        let (turns, proved) = input::replayed(file, &[]).unwrap();
+        (turns, proved.to_string(), second(file, &[]))
+    }
+
     #[test]
     fn steps_are_shown_only_where_the_reports_agree() {
-        let file = include_bytes!("../../../examples/listing.job");
-        let proved = pigwazet::replay(file).unwrap();
-        assert!(agreed(second(file), proved.as_str()).is_ok());
-        let other = proved.as_str().replace("value 50", "value 51");
-        assert!(agreed(second(file), &other).is_err());
-        assert!(agreed(None, proved.as_str()).is_err());
+        let (turns, proved, second) = listing();
+        let (log, report) = second.unwrap();
+        assert!(agreed(None, &turns, &proved).is_err());
+        let log = agreed(Some((log, report.clone())), &turns, &proved).unwrap();
+        let other = proved.replace("value 50", "value 51");
+        assert!(agreed(Some((log, report)), &turns, &other).is_err());
         // the two reports are the same, and the steps lose no round
-        let other = proved.as_str().replace("lost 0", "lost 1");
-        let (log, _) = second(file).unwrap();
-        assert!(agreed(Some((log, other.clone().into_bytes())), &other).is_err());
+        let (turns, proved, second) = listing();
+        let (log, _) = second.unwrap();
+        let other = proved.replace("lost 0", "lost 1");
+        assert!(agreed(Some((log, other.clone().into_bytes())), &turns, &other).is_err());
+    }
+
+    #[test]
+    fn steps_are_shown_only_where_the_same_are_shut() {
+        let (turns, proved, second) = listing();
+        let (mut log, report) = second.unwrap();
+        log.shut.push(12);
+        assert!(agreed(Some((log, report)), &turns, &proved).is_err());
     }
 
     #[test]

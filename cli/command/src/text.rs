@@ -8,6 +8,6 @@ use crate::{input, output};
 use std::path::Path;
 
 pub fn run(path: &Path) -> Result<Status, Failure> {
-    let Some(job) = input::accepted(path, pigwazet::read)? else { return Ok(Status::Refused) };
+    let Some(job) = input::accepted(path, None, |file, _| pigwazet::read(file))? else { return Ok(Status::Refused) };
     output::print(print::job(&job)).map(|()| Status::Fine)
 }

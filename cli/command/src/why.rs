@@ -1,30 +1,57 @@
-//! `bench why`: a refusal in words. The number is the library's; what is here looks for the place that decided it.
+//! `bench why`: a refusal in words. The number is the library's; what is here looks for the place that decided it. Of a job and a window block
+//! that are both accepted, it tells what was shut.
 
+pub mod block;
 pub mod place;
+mod shut;
 
 use crate::status::{Failure, Status};
 use crate::words::sentence;
 use crate::{input, output};
 use pigwazet::Refusal;
-use place::Decided;
 use std::path::Path;
 
-pub fn run(path: &Path) -> Result<Status, Failure> {
-    let file = input::job(path)?;
-    let name = input::name(path);
-    let Err(refusal) = pigwazet::read(&file) else {
-        output::print(format!("{name}: accepted, nothing is wrong with it\n"))?;
-        return Ok(Status::Fine);
-    };
-    output::print(format!("{name}: refused {}\n{}", refusal.number(), told(&file, refusal)))?;
+pub fn run(path: Option<&Path>, windows: Option<&Path>) -> Result<Status, Failure> {
+    input::apart(path.into_iter().chain(windows))?;
+    let file = path.map(input::job).transpose()?;
+    let block = input::block(windows)?;
+    let mut text = String::new();
+    if let (Some(path), Some(file)) = (path, &file) {
+        let name = input::name(path);
+        if let Err(refusal) = pigwazet::read(file) {
+            return refused(&name, refusal, &of_job(file, refusal));
+        }
+        text += &accepted(&name);
+    }
+    if let Some(windows) = windows {
+        let name = input::name(windows);
+        if let Err(refusal) = pigwazet::read_windows(&block) {
+            return refused(&name, refusal, &block::told(&block));
+        }
+        let empty = || format!("{name}: empty, which is no window block: nothing is shut\n");
+        text += &if block.is_empty() { empty() } else { accepted(&name) };
+    }
+    if let (Some(file), Some(_)) = (&file, windows) {
+        text += &shut::told(file, &block)?;
+    }
+    output::print(text).map(|()| Status::Fine)
+}
+
+fn accepted(name: &str) -> String {
+    format!("{name}: accepted, nothing is wrong with it\n")
+}
+
+fn refused(name: &str, refusal: Refusal, decided: &str) -> Result<Status, Failure> {
+    output::print(format!("{name}: refused {}\n{}.\n{decided}", refusal.number(), sentence(refusal.sentence())))?;
     Ok(Status::Refused)
 }
 
-fn told(file: &[u8], refusal: Refusal) -> String {
-    let Decided { place, found, remedy } = place::decided(file, refusal);
-    format!(
-        "{}.\nDecided by: {}.\nThere stands: {found}.\nWhat to do: {remedy}.\n",
-        sentence(refusal.sentence()),
-        place.told(file)
-    )
+/// The place that decided, what stands there, what to do.
+fn decided(place: &str, found: &str, remedy: &str) -> String {
+    format!("Decided by: {place}.\nThere stands: {found}.\nWhat to do: {remedy}.\n")
+}
+
+fn of_job(file: &[u8], refusal: Refusal) -> String {
+    let place::Decided { place, found, remedy } = place::decided(file, refusal);
+    decided(&place.told(file), &found, &remedy)
 }

@@ -3,6 +3,8 @@
 
 mod shared;
 
+use second::random::Random;
+use second::windows::Windows;
 use shared::{Room, generated, samples, with_drops};
 use std::fs;
 use std::process::Command;
@@ -76,11 +78,12 @@ fn rounds(dom: &str) -> [Option<String>; 2] {
     [head.map(digits), section.map(many)]
 }
 
-/// Draws a job and holds the page against the report; gives the page.
-fn held(room: &Room, name: &str, file: &[u8]) -> String {
-    let report = pigwazet::replay(file).unwrap();
+/// Draws a job, within the windows of a block or of none, and holds the page against the report; gives the page.
+fn held(room: &Room, name: &str, file: &[u8], block: &[u8]) -> String {
+    let report = pigwazet::replay_within(file, block).unwrap();
     room.write(&format!("{name}.job"), file);
-    room.bench(&format!("picture {name}.job")).is(0, "", &format!("{name}.html: "));
+    room.write(&format!("{name}.win"), block);
+    room.bench(&format!("picture {name}.job --windows {name}.win")).is(0, "", &format!("{name}.html: "));
     let dom = drawn(room, &format!("{name}.html"), "");
     let told = told(report.as_str());
     let mut effects: Vec<(String, String)> =
@@ -106,7 +109,7 @@ fn held(room: &Room, name: &str, file: &[u8]) -> String {
 fn every_sample_is_drawn_as_its_report_has_it() {
     let room = Room::new("pages");
     for (name, file) in samples() {
-        let dom = held(&room, &name, &file);
+        let dom = held(&room, &name, &file, &[]);
         // process 0 of that job has no operation
         assert!(name != "smallest" || dom.contains("queue · 1 operation by 1 process · "));
         assert!(name != "drop-take" || (dom.contains(" left at the end · 1 dropped<") && dom.contains(">Dropped: 3 at step 9<")));
@@ -126,9 +129,77 @@ fn every_sample_is_drawn_as_its_report_has_it() {
 fn generated_jobs_are_drawn_as_their_reports_have_them() {
     let room = Room::new("generated-pages");
     for seed in 0..16 {
-        held(&room, &format!("seed-{seed}"), &generated(seed).1);
-        held(&room, &format!("drops-{seed}"), &with_drops(seed).1);
+        held(&room, &format!("seed-{seed}"), &generated(seed).1, &[]);
+        held(&room, &format!("drops-{seed}"), &with_drops(seed).1, &[]);
     }
+}
+
+/// The parts of lanes that are shaded: process, first and last step.
+fn shaded(dom: &str) -> Vec<[u16; 3]> {
+    let of = |attribute: &str| with_class(dom, "shut", attribute).into_iter().map(|number| number.parse().unwrap());
+    of("data-process").zip(of("data-from")).zip(of("data-to")).map(|((process, from), to)| [process, from, to]).collect()
+}
+
+/// The same by the second replayer, for so many lanes and steps.
+fn shut(windows: &Windows, lanes: u8, steps: u16) -> Vec<[u16; 3]> {
+    let mut parts: Vec<[u16; 3]> = vec![];
+    for process in 0..lanes {
+        for step in (1..=steps).filter(|&step| !windows.is_open(process, step)) {
+            match parts.last_mut() {
+                Some([own, _, to]) if (*own, *to + 1) == (process.into(), step) => *to = step,
+                _ => parts.push([process.into(), step, step]),
+            }
+        }
+    }
+    parts
+}
+
+#[test]
+#[ignore = "needs a browser: tests/cli/run installs it"]
+fn what_was_shut_is_shaded() {
+    let room = Room::new("shaded");
+    let mut all = 0;
+    for seed in 0..16 {
+        let (draft, file) = with_drops(seed);
+        let windows = second::generate::windows::windows(draft.schedule.len(), &mut Random::new(seed));
+        let dom = held(&room, &format!("seed-{seed}"), &file, &windows.block());
+        let lanes = draft.records.iter().map(|record| record[0] + 1).max().unwrap();
+        let expected = shut(&windows, lanes, draft.schedule.len() as u16);
+        assert_eq!(shaded(&dom), expected, "seed {seed}");
+        assert!(dom.contains("<li id=\"shut-key\">"));
+        all += expected.len();
+    }
+    assert!(all > 20, "{all}");
+    let dom = held(&room, "plain", &generated(1).1, &[]);
+    assert!(shaded(&dom).is_empty() && dom.contains("<li id=\"shut-key\" hidden"));
+}
+
+#[test]
+#[ignore = "needs a browser: tests/cli/run installs it"]
+fn pointing_at_what_was_shut_shows_the_window() {
+    let room = Room::new("pointed-at-shut");
+    for name in ["satellite.job", "satellite.win"] {
+        room.sample(name);
+    }
+    room.bench("picture satellite.job --windows satellite.win").is(0, "", "html");
+    let page = room.text("satellite.html");
+    for (process, lines) in [
+        (1, "process 1 shut: steps 11 to 16\nits window: Thu 23:30 to 24:00"),
+        (2, "process 2 shut: steps 1 to 10\nits window: Fri 00:00 to 00:30"),
+    ] {
+        let dom = pointed(&room, &page, &format!(".shut[data-process=\"{process}\"]"));
+        assert!(dom.contains(&format!(">{lines}</div>")), "{process}");
+        assert!(dom.contains(" · from Thursday 2024-02-29 23:59:50 on</p>"));
+        assert!(dom.contains("title=\"its window: Fri 00:00 to 00:30\""));
+    }
+}
+
+/// A page in which the pointer was brought over an element.
+fn pointed(room: &Room, page: &str, element: &str) -> String {
+    let point =
+        format!("document.querySelector('{element}').dispatchEvent(new PointerEvent('pointerover', {{ bubbles: true }}));");
+    room.write("pointed.html", page.replace("</body>", &format!("<script>{point}</script></body>")));
+    drawn(room, "pointed.html", "")
 }
 
 #[test]
@@ -181,11 +252,7 @@ fn pointing_shows_the_lines_of_the_report() {
     ] {
         room.sample(&format!("{name}.job"));
         room.bench(&format!("picture {name}.job")).is(0, "", "html");
-        let page = room.text(&format!("{name}.html"));
-        let point =
-            format!("document.querySelector('{element}').dispatchEvent(new PointerEvent('pointerover', {{ bubbles: true }}));");
-        room.write("pointed.html", page.replace("</body>", &format!("<script>{point}</script></body>")));
-        let dom = drawn(&room, "pointed.html", "");
+        let dom = pointed(&room, &room.text(&format!("{name}.html")), element);
         assert!(dom.contains(&format!(">{lines}</div>")), "{element}");
     }
 }

@@ -24,43 +24,52 @@ fn furnished(room: Room) -> Room {
     room
 }
 
+/// What is told with the usage.
+const WRONG_USE: [&str; 25] = [
+    "",
+    "nosuch",
+    "make",
+    "make a b",
+    "text",
+    "text listing.job smallest.job",
+    "replay",
+    "replay --nosuch listing.job",
+    "replay listing.job --out",
+    "replay listing.job --windows",
+    "replay --windows listing.job",
+    "windows",
+    "windows a b",
+    "windows a --text -o b",
+    "text listing.job --windows a",
+    "why",
+    "reading listing.job",
+    "reading listing.job 1 --doubles",
+    "reading listing.job x",
+    "reading listing.job -1",
+    "reading listing.job 65536",
+    "steps",
+    "steps listing.job --op",
+    "steps listing.job --from x",
+    "picture",
+];
+
 #[test]
 fn help_and_wrong_use() {
     let room = room("use");
-    for words in ["help", "--help", "-h", "help make", "make --help", "help replay", "steps -h"] {
+    for words in ["help", "--help", "-h", "help make", "make --help", "help replay", "steps -h", "help windows"] {
         let ran = room.bench(words);
         assert_eq!((ran.status, ran.said.as_str()), (0, ""), "{words}");
         assert!(ran.out.contains("Usage: bench"), "{words}");
     }
     let every = room.bench("help").out;
-    for command in ["make", "text", "replay", "why", "reading", "steps", "picture"] {
+    for command in ["make", "text", "windows", "replay", "why", "reading", "steps", "picture"] {
         assert!(every.contains(&format!("\n  {command} ")), "{command}");
     }
-    assert!(every.contains("Exit status: 0 all is well; 1 a job was refused; 2 wrong use, a wrong text"));
+    assert!(every.contains("Exit status: 0 all is well; 1 a job or a window block was refused; 2 wrong use, a wrong text"));
     for words in ["help replay", "help steps"] {
         assert!(room.bench(words).out.contains(" to begin again. Each costs radio battery."), "{words}");
     }
-    for words in [
-        "",
-        "nosuch",
-        "make",
-        "make a b",
-        "text",
-        "text listing.job smallest.job",
-        "replay",
-        "replay --nosuch listing.job",
-        "replay listing.job --out",
-        "why",
-        "reading listing.job",
-        "reading listing.job 1 --doubles",
-        "reading listing.job x",
-        "reading listing.job -1",
-        "reading listing.job 65536",
-        "steps",
-        "steps listing.job --op",
-        "steps listing.job --from x",
-        "picture",
-    ] {
+    for words in WRONG_USE {
         room.bench(words).fails("--help");
     }
 }
@@ -68,10 +77,22 @@ fn help_and_wrong_use() {
 #[test]
 fn a_missing_file_is_told_by_every_command() {
     let room = room("missing");
-    for words in ["make", "text", "replay", "why", "reading --doubles", "steps", "picture", "replay --files-from"] {
+    for words in [
+        "make",
+        "text",
+        "windows",
+        "windows --text",
+        "replay",
+        "why",
+        "why --windows",
+        "reading --doubles",
+        "steps",
+        "picture",
+        "replay --files-from",
+    ] {
         room.bench(&format!("{words} none")).fails("none could not be read: No such file");
     }
-    for words in ["make", "text", "why", "reading --doubles", "steps", "picture"] {
+    for words in ["make", "text", "windows", "windows --text", "why", "reading --doubles", "steps", "picture"] {
         room.bench(&format!("{words} .")).fails(". could not be read: Is a directory");
     }
 }
@@ -93,10 +114,14 @@ fn a_refused_file_is_told_by_every_command() {
 fn an_answer_that_cannot_be_written_is_status_two() {
     let room = room("full");
     room.write("hour.txt", "queue\nprocesses 1\nput 0 5\n");
+    room.sample("satellite.windows");
+    room.sample("satellite.win");
     let full = || Stdio::from(fs::OpenOptions::new().write(true).open("/dev/full").unwrap());
     for words in [
         "make hour.txt -o -",
         "text listing.job",
+        "windows satellite.windows -o -",
+        "windows --text satellite.win",
         "replay listing.job",
         "why listing.job",
         "reading listing.job 1",
@@ -109,6 +134,7 @@ fn an_answer_that_cannot_be_written_is_status_two() {
         assert_eq!(status.code(), Some(2), "{words}");
     }
     room.bench("make hour.txt -o no/such/folder.job").fails("no/such/folder.job could not be written: ");
+    room.bench("windows satellite.windows -o no/such/folder.win").fails("no/such/folder.win could not be written: ");
     room.bench("picture listing.job -o no/such/folder.html").fails("no/such/folder.html could not be written: ");
     room.bench("replay listing.job --out listing.job").fails("The folder listing.job cannot be made: ");
 }

@@ -153,12 +153,12 @@ fn fates_of_generated_jobs_are_those_of_their_reports() {
     let (mut doubles, mut kept, mut never, mut drops) = (0, 0, 0, 0);
     for seed in 0..1_600 {
         let file = if seed % 2 == 0 { generated(seed).1 } else { with_drops(seed).1 };
-        let (job, report) = input::replayed(&file).unwrap();
+        let (turns, report) = input::replayed(&file, &[]).unwrap();
         let run = report.run();
         let apart = Report::of(report.as_str().as_bytes()).unwrap();
         for operation in &apart.operations {
             let item = operation.number;
-            let fate = reading::fate(&job, &run, item);
+            let fate = reading::fate(&turns, &run, item);
             assert_eq!(fate.is_some(), operation.put.is_some(), "seed {seed}, {item}");
             let (Some(fate), Some(value)) = (fate, operation.put) else { continue };
             let text = fate.join("\n");
@@ -475,15 +475,17 @@ fn rows_are_those_that_the_page_about_steps_shows() {
     let room = Room::new("rows");
     let mut shown = 0;
     for block in page.split("\n\n") {
-        let Some((name, _)) = block.trim_start().strip_prefix("examples/").and_then(|rest| rest.split_once(".job: ")) else {
+        let Some((name, _)) = block.trim_start().strip_prefix("examples/").and_then(|rest| rest.split_once(": ")) else {
             continue;
         };
         let words = |line: &str| -> Vec<String> {
             let line = block.lines().map(str::trim).find(|other| other.starts_with(line)).unwrap();
             line.split_whitespace().skip(1).map(String::from).collect()
         };
-        room.sample(&format!("{name}.job"));
-        let out = room.bench(&format!("steps {name}.job")).out;
+        // `listing.job`, or `satellite.job within examples/satellite.win`
+        let files = name.replace(" within examples/", " ");
+        files.split(' ').for_each(|file| room.sample(file));
+        let out = room.bench(&format!("steps {}", files.replace(' ', " --windows "))).out;
         let column = |at: usize| -> Vec<String> {
             out.lines().skip(1).map(|line| line.split_whitespace().nth(at).unwrap().to_string()).collect()
         };
@@ -500,19 +502,20 @@ fn the_two_replayers_agree_and_every_step_has_a_line() {
         (0..800).flat_map(|seed| [generated(seed).1, with_drops(seed).1]).chain(samples().into_iter().map(|(_, file)| file));
     let mut dropped = 0;
     for file in files {
-        let (job, proved) = input::replayed(&file).unwrap();
-        let log = steps::agreed(steps::second(&file), proved.as_str()).unwrap();
+        let (turns, proved) = input::replayed(&file, &[]).unwrap();
+        let job = &turns.job;
+        let log = steps::agreed(steps::second(&file, &[]), &turns, proved.as_str()).unwrap();
         let all = job.schedule.len();
-        let text = steps::told(&job, &log, None, &(1..=all as u16));
+        let text = steps::told(&turns, &log, None, &(1..=all as u16));
         assert_eq!(text.lines().count(), all + 1);
         let of_each: usize = (1..=job.operations.len() as u16)
-            .map(|op| steps::told(&job, &log, Some(op), &(1..=all as u16)).lines().count() - 1)
+            .map(|op| steps::told(&turns, &log, Some(op), &(1..=all as u16)).lines().count() - 1)
             .sum();
         assert_eq!(of_each + text.matches("  idle: ").count(), all);
         // the job tells of the report's drops what the second replayer saw
         let run = proved.run();
         let mut told: Vec<(u16, u16)> =
-            run.operations.iter().filter_map(|own| Some((own.dropped_at(&job)?, own.number))).collect();
+            run.operations.iter().filter_map(|own| Some((own.dropped_at(job)?, own.number))).collect();
         told.sort();
         let seen: Vec<(u16, u16)> = log.drops.iter().map(|drop| (drop.step, drop.operation)).collect();
         assert_eq!((&told, run.operations.iter().filter(|own| own.ending == Dropped).count()), (&seen, seen.len()));
@@ -546,9 +549,10 @@ fn held_to_rows(text: &str) {
 fn lost_rounds_of_generated_jobs_are_those_of_their_reports_and_of_their_rows() {
     let (mut queues, mut lost) = (0, 0);
     for file in (0..800).flat_map(|seed| [generated(seed).1, with_drops(seed).1]) {
-        let (job, proved) = input::replayed(&file).unwrap();
-        let log = steps::agreed(steps::second(&file), proved.as_str()).unwrap();
-        let text = steps::told(&job, &log, None, &(1..=job.schedule.len() as u16));
+        let (turns, proved) = input::replayed(&file, &[]).unwrap();
+        let job = &turns.job;
+        let log = steps::agreed(steps::second(&file, &[]), &turns, proved.as_str()).unwrap();
+        let text = steps::told(&turns, &log, None, &(1..=job.schedule.len() as u16));
         let rounds: Vec<u16> = text.lines().filter_map(|line| line.split_once(", lost round ")?.1.parse().ok()).collect();
         let run = proved.run();
         assert_eq!((job.kind == Kind::Queue, run.lost.unwrap_or_default()), (run.lost.is_some(), rounds.len() as u16));

@@ -2,8 +2,8 @@
 
 mod shared;
 
-use bench_command::text::parse::{self, Wrong};
-use bench_command::text::print;
+use bench_command::lines::Wrong;
+use bench_command::text::{parse, print};
 use pigwazet::limits::{OPERATIONS, STEPS};
 use pigwazet::{Action, Job, Kind, Operation};
 use rayon::prelude::*;

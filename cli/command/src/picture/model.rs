@@ -1,15 +1,15 @@
-//! What the page's script draws from, as JSON: the report taken apart, with the steps in which operations were dropped.
+//! What the page's script draws from, as JSON: the report taken apart, with the steps in which operations were dropped, and those that were shut.
 
 use crate::reading;
-use pigwazet::Job;
+use crate::turns::Turns;
+use crate::windows::words;
+use pigwazet::Windows;
 use pigwazet::report::{Action, Effect, Ending, Line, Operation, Run};
 
-pub fn json(name: &str, job: &Job, run: &Run) -> String {
+pub fn json(name: &str, turns: &Turns, run: &Run) -> String {
     let processes = run.operations.iter().map(|operation| operation.process + 1).max().unwrap_or_default();
-    let ends = run.operations.iter().flat_map(|operation| operation.first.max(operation.last).max(operation.dropped_at(job)));
-    let steps = ends.chain(run.record.iter().map(|line| line.at)).max().unwrap_or_default();
     let fates = reading::readings(run).filter_map(|(item, _)| {
-        let lines = reading::fate(job, run, item)?.iter().map(|line| string(line)).collect();
+        let lines = reading::fate(turns, run, item)?.iter().map(|line| string(line)).collect();
         Some((item.to_string(), array(lines)))
     });
     let mut fields = vec![
@@ -17,17 +17,36 @@ pub fn json(name: &str, job: &Job, run: &Run) -> String {
         ("object", string(run.kind.noun())),
         ("end", string(reading::end(run.kind))),
         ("processes", processes.to_string()),
-        ("steps", steps.to_string()),
-        ("operations", array(run.operations.iter().map(|own| operation(job, own)).collect())),
+        ("steps", steps(turns, run).to_string()),
+        ("operations", array(run.operations.iter().map(|own| operation(turns, own)).collect())),
         ("record", array(run.record.iter().map(line).collect())),
     ];
     fields.extend(run.lost.map(|lost| ("lost", lost.to_string())));
     fields.extend(run.lost_line.map(|line| ("lostLine", string(line))));
     fields.extend([("left", numbers(&run.left)), ("leftLine", string(run.left_line)), ("fates", object(fates))]);
+    fields.extend(turns.windows.map(|booked| ("windows", windows(turns, &booked, processes))));
     object(fields)
 }
 
-fn operation(job: &Job, operation: &Operation) -> String {
+/// Up to which step a run is drawn: the last that the report tells, or within windows the last of all, since what is shut is in no report.
+fn steps(turns: &Turns, run: &Run) -> u16 {
+    let ends = run.operations.iter().flat_map(|operation| operation.first.max(operation.last).max(turns.dropped_at(operation)));
+    let told = ends.chain(run.record.iter().map(|line| line.at)).max().unwrap_or_default();
+    if turns.windows.is_some() { turns.job.schedule.len() as u16 } else { told }
+}
+
+/// The start in words, and of each process its window and the steps that were shut.
+fn windows(turns: &Turns, windows: &Windows, processes: u8) -> String {
+    let lane = |process: u8| {
+        let spans = turns.hours.shut(process).iter().map(|steps| numbers(&[*steps.start(), *steps.end()])).collect();
+        let window = words::window(windows.entries[usize::from(process)]);
+        object([("window", string(&window)), ("shut", array(spans))])
+    };
+    let start = format!("{} {}", words::weekday(&windows.start), words::start(&windows.start));
+    object([("start", string(&start)), ("lanes", array((0..processes).map(lane).collect()))])
+}
+
+fn operation(turns: &Turns, operation: &Operation) -> String {
     let mut fields = vec![("number", operation.number.to_string()), ("process", operation.process.to_string())];
     match operation.action {
         Action::Put(value) => fields.extend([("action", string("put")), ("value", value.to_string())]),
@@ -35,7 +54,7 @@ fn operation(job: &Job, operation: &Operation) -> String {
     }
     fields.extend(operation.first.map(|step| ("first", step.to_string())));
     fields.extend(operation.last.map(|step| ("last", step.to_string())));
-    fields.extend(operation.dropped_at(job).map(|step| ("dropped", step.to_string())));
+    fields.extend(turns.dropped_at(operation).map(|step| ("dropped", step.to_string())));
     let ending = match operation.ending {
         Ending::Done => "done",
         Ending::Empty => "empty",
@@ -94,11 +113,11 @@ fn string(text: &str) -> String {
 #[cfg(test)]
 mod tests {
     use super::*;
-    use pigwazet::Kind;
+    use pigwazet::{Job, Kind};
 
-    /// A job with this schedule; what else there is to tell is in its report.
-    fn job(schedule: &[u8]) -> Job {
-        Job { kind: Kind::Queue, processes: 2, operations: vec![], schedule: schedule.to_vec() }
+    /// The turns of this schedule; what else there is to tell is in a report.
+    fn turns(schedule: &[u8]) -> Turns {
+        Turns::from(Job { kind: Kind::Queue, processes: 2, operations: vec![], schedule: schedule.to_vec() })
     }
 
     #[test]
@@ -111,7 +130,7 @@ mod tests {
         let run = Run::of(
             "object queue\nop 1 process 1 put -2 first 1 last - open\nop 2 process 0 take first - last - waiting\nlost 0\nleft 0\n",
         );
-        let json = json("a.job", &job(&[1]), &run.unwrap());
+        let json = json("a.job", &turns(&[1]), &run.unwrap());
         let expected = concat!(
             r#"{"name":"a.job","object":"queue","end":"front","processes":2,"steps":1,"operations":["#,
             r#"{"number":1,"process":1,"action":"put","value":-2,"first":1,"ending":"open","line":"op 1 process 1 put -2 first 1 last - open"},"#,
@@ -126,7 +145,7 @@ mod tests {
     fn a_dropped_operation_has_the_step_of_its_drop() {
         let report = "object queue\nop 1 process 0 put 50 first 3 last - dropped\nat 5 put 1\nlost 0\nleft 1 1\n";
         // a drop with nothing begun, one by another process, one that counts, one with nothing begun again
-        let json = json("a.job", &job(&[128, 129, 0, 0, 0, 129, 128, 128]), &Run::of(report).unwrap());
+        let json = json("a.job", &turns(&[128, 129, 0, 0, 0, 129, 128, 128]), &Run::of(report).unwrap());
         let operation =
             r#"{"number":1,"process":0,"action":"put","value":50,"first":3,"dropped":7,"ending":"dropped","line":"op 1 "#;
         let fate = concat!(
@@ -141,7 +160,7 @@ mod tests {
         // Q1 Q2 Q3 by the put, which is then open; T1 T2 T3 T4 by the take, and again T1 T2 T3 T5
         let report = "object queue\nop 1 process 0 put 120 first 1 last - open\nop 2 process 1 take first 4 last 11 item 1 value 120\n\
                       at 3 put 1\nat 11 take 1 by 2\nlost 1\nleft 0\n";
-        let json = json("a.job", &job(&[0, 0, 0, 1, 1, 1, 1, 1, 1, 1, 1]), &Run::of(report).unwrap());
+        let json = json("a.job", &turns(&[0, 0, 0, 1, 1, 1, 1, 1, 1, 1, 1]), &Run::of(report).unwrap());
         let lost = r#""line":"at 11 take 1 by 2"}],"lost":1,"lostLine":"lost 1","left":[],"leftLine":"left 0","#;
         assert!(json.contains(lost), "{json}");
     }
@@ -149,7 +168,7 @@ mod tests {
     #[test]
     fn a_linked_stack_is_listed_from_the_top() {
         let report = "object linked\nop 1 process 0 put 50 first 1 last - open\nat 4 put 1\nleft 1 1\n";
-        let json = json("a.job", &job(&[0; 4]), &Run::of(report).unwrap());
+        let json = json("a.job", &turns(&[0; 4]), &Run::of(report).unwrap());
         let begins = r#"{"name":"a.job","object":"linked stack","end":"top","processes":1,"steps":4,"#;
         let ends = concat!(
             r#""left":[1],"leftLine":"left 1 1","fates":{"1":["Reading 1: 50 cm, put by operation 1 of process 0 (open since step 1).","#,

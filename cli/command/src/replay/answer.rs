@@ -26,8 +26,8 @@ pub struct Worker {
 }
 
 impl Worker {
-    /// Replays one file. What bin/replay would print goes below `out`, where that is given.
-    pub fn answer(&mut self, input: &Input, out: Option<&Path>) -> Answer {
+    /// Replays one file within the windows of a block, if there is one. What bin/replay would print goes below `out`, where that is given.
+    pub fn answer(&mut self, input: &Input, block: &[u8], out: Option<&Path>) -> Answer {
         let read = match &input.source {
             Source::Standard => input::fill_standard(MOST, &mut self.file),
             Source::File(path) => input::fill(path, MOST, &mut self.file),
@@ -36,7 +36,7 @@ impl Worker {
         if let Err(why) = read {
             return Answer::Failed(format!("{} could not be read: {why}", input.name));
         }
-        match (self.memory.replay(&self.file), out) {
+        match (self.memory.replay_within(&self.file, block), out) {
             (Ok(report), None) => Answer::Replayed(report.to_string()),
             (Err(refusal), None) => Answer::Refused(refusal),
             (Ok(report), Some(out)) => kept(out, input, report).map_or_else(Answer::Failed, |()| Answer::Replayed(String::new())),

@@ -25,10 +25,6 @@ pub enum Source {
 
 /// All files that are named, found in a folder or listed.
 pub fn all(files: &[PathBuf], list: Option<&Path>) -> Result<Vec<Input>, Failure> {
-    let standard = files.iter().map(PathBuf::as_path).chain(list).filter(|path| is_standard(path)).count();
-    if standard > 1 {
-        return Err(Failure("Standard input can be read only once.".to_string()));
-    }
     let mut inputs = vec![];
     for path in files {
         if is_standard(path) {

@@ -22,6 +22,7 @@ pub fn agrees(log: &Log, report: &str) -> bool {
 mod tests {
     use super::super::{second, told};
     use super::*;
+    use crate::turns::Turns;
     use pigwazet::{Action, Job, Kind, Operation};
 
     const PUT: Action = Action::Put(500);
@@ -40,7 +41,7 @@ mod tests {
     }
 
     fn log(job: &Job) -> Log {
-        second(&pigwazet::write(job).unwrap()).unwrap().0
+        second(&pigwazet::write(job).unwrap(), &[]).unwrap().0
     }
 
     /// The steps that go back, each with its row and the row to which it goes.
@@ -92,10 +93,10 @@ mod tests {
 
     #[test]
     fn rounds_are_numbered_over_the_whole_run() {
-        let job = crowded();
-        let log = log(&job);
+        let log = log(&crowded());
+        let turns = Turns::from(crowded());
         let lines = |op: Option<u16>, from: u16, to: u16| {
-            let text = told(&job, &log, op, &(from..=to));
+            let text = told(&turns, &log, op, &(from..=to));
             text.lines().filter(|line| line.contains("lost round")).map(|line| line.trim().to_string()).collect::<Vec<_>>()
         };
         let all = [

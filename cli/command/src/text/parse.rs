@@ -1,101 +1,15 @@
-//! A job's text read: docs/TEXT.md. Every wrong line is told, with what was found and what is allowed.
+//! A job's text read: docs/TEXT.md.
 
-use crate::names::excerpt;
+use crate::lines::{self, Fault, Words, Wrong, quoted};
 use crate::words::{either, grouped};
 use pigwazet::limits::{OPERATIONS, PROCESSES, STEPS};
 use pigwazet::{Action, Job, Kind, Operation, Turn};
-use std::fmt;
-use std::ops::RangeInclusive;
-
-/// What is wrong in a line.
-#[derive(Clone, PartialEq, Eq, Debug)]
-pub struct Fault {
-    /// From 1; the last line where the text ends too soon.
-    pub line: usize,
-    pub wrong: Wrong,
-}
-
-#[derive(Clone, PartialEq, Eq, Debug)]
-pub struct Wrong {
-    pub found: String,
-    pub allowed: String,
-}
-
-impl Wrong {
-    fn new(found: impl Into<String>, allowed: impl Into<String>) -> Wrong {
-        Wrong { found: found.into(), allowed: allowed.into() }
-    }
-}
-
-impl fmt::Display for Wrong {
-    fn fmt(&self, f: &mut fmt::Formatter) -> fmt::Result {
-        write!(f, "found {}; allowed: {}", self.found, self.allowed)
-    }
-}
 
 /// The job of a text, or all its wrong lines.
 pub fn job(text: &str) -> Result<Job, Vec<Fault>> {
-    let mut draft = Draft::default();
-    let mut faults = vec![];
-    let mut line = 1;
-    // some editors begin a text with a mark
-    for (statement, number) in text.strip_prefix('\u{feff}').unwrap_or(text).lines().zip(1..) {
-        line = number;
-        if let Err(wrong) = draft.line(statement) {
-            faults.push(Fault { line, wrong });
-        }
-    }
-    // what is missing is told only where nothing else is wrong
-    match draft.job() {
-        Ok(job) if faults.is_empty() => Ok(job),
-        Err(wrong) if faults.is_empty() => Err(vec![Fault { line, wrong }]),
-        _ => Err(faults),
-    }
+    lines::read::<Draft>(text)
 }
 
-/// The words of a statement, each taken for what must stand there.
-struct Words<'a> {
-    rest: std::iter::Peekable<std::vec::IntoIter<&'a str>>,
-}
-
-impl<'a> Words<'a> {
-    /// The next word, or what is wrong without one.
-    fn word(&mut self, allowed: &str) -> Result<&'a str, Wrong> {
-        self.rest.next().ok_or_else(|| Wrong::new("the end of the line", allowed))
-    }
-
-    fn number(&mut self, what: &str, range: RangeInclusive<i64>) -> Result<i64, Wrong> {
-        let (least, most) = (signed(*range.start()), signed(*range.end()));
-        let allowed = if least == most { format!("{what}, {least}") } else { format!("{what}, {least} to {most}") };
-        let word = self.word(&allowed)?;
-        let plain = word.strip_prefix('-').unwrap_or(word).bytes().all(|byte| byte.is_ascii_digit());
-        let number = word.parse().ok().filter(|number| plain && range.contains(number));
-        number.ok_or_else(|| Wrong::new(quoted(word), allowed))
-    }
-
-    /// Whether this word comes next; if so, it is taken.
-    fn next_is(&mut self, word: &str) -> bool {
-        self.rest.next_if(|next| *next == word).is_some()
-    }
-
-    fn end(&mut self) -> Result<(), Wrong> {
-        self.rest.next().map_or(Ok(()), |word| Err(Wrong::new(quoted(word), "the end of the line, or # and a comment")))
-    }
-}
-
-/// A word as messages have it; a dash that only looks like a minus is named.
-fn quoted(word: &str) -> String {
-    let dashed = word.starts_with(['\u{2010}', '\u{2011}', '\u{2012}', '\u{2013}', '\u{2014}', '\u{2212}']);
-    let word = excerpt(word);
-    if dashed { format!("'{word}', which does not begin with the - of a keyboard") } else { format!("'{word}'") }
-}
-
-fn signed(number: i64) -> String {
-    let sign = if number < 0 { "-" } else { "" };
-    format!("{sign}{}", grouped(number.unsigned_abs() as usize))
-}
-
-/// What the lines so far say.
 #[derive(Default)]
 struct Draft {
     kind: Option<Kind>,
@@ -104,21 +18,30 @@ struct Draft {
     schedule: Vec<u8>,
 }
 
-impl Draft {
-    fn line(&mut self, line: &str) -> Result<(), Wrong> {
-        let statement = line.split('#').next().unwrap_or_default();
-        let words: Vec<&str> = statement.split([' ', '\t']).filter(|word| !word.is_empty()).collect();
-        let mut words = Words { rest: words.into_iter().peekable() };
-        let Some(word) = words.rest.next() else { return Ok(()) };
+impl lines::Draft for Draft {
+    type Whole = Job;
+
+    fn take(&mut self, word: &str, words: &mut Words) -> Result<(), Wrong> {
         match word {
-            "processes" => self.take_processes(&mut words)?,
-            "put" | "take" => self.take_operation(word, &mut words)?,
-            "order" => self.take_order(&mut words)?,
-            _ => self.take_object(word)?,
+            "processes" => self.take_processes(words),
+            "put" | "take" => self.take_operation(word, words),
+            "order" => self.take_order(words),
+            _ => self.take_object(word),
         }
-        words.end()
     }
 
+    fn whole(self) -> Result<Job, Wrong> {
+        let objects = || format!("a line {}", either(&kinds().collect::<Vec<_>>()));
+        let kind = self.kind.ok_or_else(|| Wrong::missing("object", objects()))?;
+        let processes = self.processes.ok_or_else(|| Wrong::missing("line of processes", "'processes' and how many"))?;
+        if self.operations.is_empty() {
+            return Err(Wrong::missing("operation", format!("1 to {OPERATIONS} lines that begin with put or take")));
+        }
+        Ok(Job { kind, processes, operations: self.operations, schedule: self.schedule })
+    }
+}
+
+impl Draft {
     fn take_object(&mut self, word: &str) -> Result<(), Wrong> {
         let other = || {
             let words: Vec<String> = kinds().chain(["processes", "put", "take", "order"].map(String::from)).collect();
@@ -168,7 +91,7 @@ impl Draft {
                 return Err(Wrong::new(found, format!("at most {} steps in all orders together", grouped(STEPS))));
             }
             self.schedule.extend(std::iter::repeat_n(turn.entry(), count));
-            if words.rest.peek().is_none() {
+            if words.is_over() {
                 return Ok(());
             }
         }
@@ -187,16 +110,6 @@ impl Draft {
         };
         let process = words.number("a process", 0..=i64::from(processes) - 1);
         process.map(|process| process as u8).map_err(|Wrong { found, allowed }| Wrong { found, allowed: allowed + more })
-    }
-
-    fn job(self) -> Result<Job, Wrong> {
-        let missing = |what: &str, allowed: String| Wrong::new(format!("the end of the text, and no {what}"), allowed);
-        let kind = self.kind.ok_or_else(|| missing("object", format!("a line {}", either(&kinds().collect::<Vec<_>>()))))?;
-        let processes = self.processes.ok_or_else(|| missing("line of processes", "'processes' and how many".to_string()))?;
-        if self.operations.is_empty() {
-            return Err(missing("operation", format!("1 to {OPERATIONS} lines that begin with put or take")));
-        }
-        Ok(Job { kind, processes, operations: self.operations, schedule: self.schedule })
     }
 }
 

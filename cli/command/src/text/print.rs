@@ -1,13 +1,12 @@
 //! The one form in which a job is printed as text.
 
+use crate::lines::commented;
 use pigwazet::{Action, Job, Operation, Turn};
 
 /// Terms in an order line: a turn, or a turn and how often.
 const TERMS: usize = 16;
 /// A turn is repeated in a term from this many steps on.
 const REPEATED: usize = 3;
-/// Comments stand behind this column.
-const COLUMN: usize = 16;
 
 pub fn job(job: &Job) -> String {
     let mut text = format!("{}\nprocesses {}\n\n", job.kind.name(), job.processes);
@@ -25,10 +24,6 @@ pub fn job(job: &Job) -> String {
         made += steps;
     }
     text
-}
-
-fn commented(line: &str, comment: &str) -> String {
-    format!("{line:COLUMN$}  # {comment}\n")
 }
 
 fn statement(operation: &Operation) -> String {

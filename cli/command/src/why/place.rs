@@ -2,6 +2,7 @@
 
 use crate::input::{MOST, looks_like_text};
 use crate::words::{counted, grouped};
+use pigwazet::block::{held, sums};
 use pigwazet::limits::{BLOCK, FILE, HEADER, OPERATIONS, PAYLOAD, PROCESSES, RECORD, STEPS};
 use pigwazet::{Kind, Refusal, Turn};
 
@@ -66,7 +67,7 @@ fn byte_told(byte: usize) -> String {
     format!("byte {} of the file (block {block}, byte {within})", grouped(block * BLOCK + within))
 }
 
-fn word(bytes: &[u8], at: usize) -> u16 {
+pub fn word(bytes: &[u8], at: usize) -> u16 {
     u16::from_be_bytes([bytes[at], bytes[at + 1]])
 }
 
@@ -106,6 +107,7 @@ pub fn decided(file: &[u8], refusal: Refusal) -> Decided {
         2 => Some(length(file)),
         3 => sum(file),
         4 => block_number(file),
+        5 if pigwazet::read_windows(file).is_ok() => Some(windows()),
         5..=8 => Some(header(&Stream::of(file), refusal.number())),
         9 => Some(count(file)),
         10 => record(&Stream::of(file)),
@@ -121,7 +123,7 @@ pub fn decided(file: &[u8], refusal: Refusal) -> Decided {
 }
 
 /// The length of a file, of which only so much is read.
-fn bytes(file: &[u8]) -> String {
+pub fn bytes(file: &[u8]) -> String {
     let most = if file.len() as u64 == MOST { " or more" } else { "" };
     format!("{}{most}", counted(file.len(), "byte", "bytes"))
 }
@@ -129,6 +131,11 @@ fn bytes(file: &[u8]) -> String {
 fn text(file: &[u8]) -> Decided {
     let remedy = "if it is a job written as text, make its job file with `bench make`".to_string();
     Decided { place: Place::File, found: format!("{} of plain text, which no job file is", bytes(file)), remedy }
+}
+
+fn windows() -> Decided {
+    let remedy = "name it behind --windows, beside a job file".to_string();
+    Decided { place: Place::File, found: "a window block, which no job file is".to_string(), remedy }
 }
 
 fn length(file: &[u8]) -> Decided {
@@ -145,21 +152,16 @@ fn length(file: &[u8]) -> Decided {
     Decided { place: Place::File, found, remedy }
 }
 
-/// Document 01's two sums over a block's bytes 0 to 507.
-fn sums(block: &[u8; BLOCK]) -> (u16, u16) {
-    block[..BLOCK - 4].iter().fold((1u16, 0u16), |(a, b), &byte| {
-        let a = a.wrapping_add(u16::from(byte));
-        (a, b.wrapping_add(a))
-    })
+fn sum(file: &[u8]) -> Option<Decided> {
+    let (position, block) = file.as_chunks().0.iter().enumerate().find(|(_, block)| sums(block) != held(block))?;
+    let remedy = "read the card again; if it stays so, the block is lost".to_string();
+    Some(Decided { place: Place::Block(position), found: sums_told(block), remedy })
 }
 
-fn sum(file: &[u8]) -> Option<Decided> {
-    let held = |block: &[u8; BLOCK]| (word(block, BLOCK - 4), word(block, BLOCK - 2));
-    let (position, block) = file.as_chunks().0.iter().enumerate().find(|(_, block)| sums(block) != held(block))?;
+/// Sums that are not those of their block.
+pub fn sums_told(block: &[u8; BLOCK]) -> String {
     let ((a, b), (right_a, right_b)) = (held(block), sums(block));
-    let found = format!("the sums {a:04x} and {b:04x}; the block's bytes give {right_a:04x} and {right_b:04x}");
-    let remedy = "read the card again; if it stays so, the block is lost".to_string();
-    Some(Decided { place: Place::Block(position), found, remedy })
+    format!("the sums {a:04x} and {b:04x}; the block's bytes give {right_a:04x} and {right_b:04x}")
 }
 
 fn block_number(file: &[u8]) -> Option<Decided> {

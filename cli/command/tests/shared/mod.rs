@@ -1,7 +1,7 @@
-//! What the tests share: jobs of the second replayer's generator, and the command run in a folder of its own.
+//! What the tests share: jobs and windows of the second replayer's generators, and the command run in a folder of its own.
 #![allow(dead_code)]
 
-use second::file::sealed;
+use second::file::{BLOCK, sealed};
 use second::generate::order::Order;
 use second::generate::{self, Draft};
 use second::job::{DROP, OPERATIONS, STEPS};
@@ -49,6 +49,21 @@ pub fn full_size(seed: u64) -> (Draft, Vec<u8>) {
     let draft = shapes::job(1 + (seed % 3) as u8, OPERATIONS, STEPS, &Order::Crowded, seed);
     let file = sealed(&draft.stream());
     (draft, file)
+}
+
+/// A block that the second replayer makes: of a run's windows, or with any fields in range.
+pub fn block(seed: u64) -> [u8; BLOCK] {
+    let mut random = Random::new(seed);
+    let minute = |random: &mut Random| random.between(0, 1_440) as u16;
+    let mut windows = generate::windows::windows(STEPS, &mut random);
+    if random.chance(2) {
+        for entry in &mut windows.entries {
+            entry.weekdays = random.byte() & 0x7f;
+            entry.opening = minute(&mut random);
+            entry.closing = minute(&mut random);
+        }
+    }
+    windows.block()
 }
 
 /// What a run of the command gave.

@@ -12,7 +12,7 @@ const byId = (id) => document.getElementById(id);
 const scroll = byId("scroll"), plot = byId("plot"), axis = byId("axis"), tip = byId("tip"), fate = byId("fate");
 const run = JSON.parse(byId("run").textContent);
 const index = indexRun();
-const shapes = { bars: [], cuts: [], marks: [], ties: [] };
+const shapes = { bars: [], cuts: [], marks: [], ties: [], shut: [] };
 const layers = {};
 const view = { room: 0, scale: 1, atFit: true, printing: false, picked: null, flags: [] };
 

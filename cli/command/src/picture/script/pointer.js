@@ -15,12 +15,20 @@ function readingUnder(target) {
 function linesUnder(target) {
   const op = opUnder(target), tied = target.closest(".tie");
   if (tied) return [index.takes.get(Number(tied.dataset.item)).line];
-  if (!op) return [];
+  if (!op) return shutUnder(target);
   const line = index.lines.get(op.number), effect = line ? [line.line] : [];
   const drop = isDropped(op) ? ["dropped at step " + op.dropped] : [];
   if (target.closest(".effect")) return [...effect, op.line, ...drop];
   if (target.closest(".cut")) return [...drop, op.line, ...effect];
   return [op.line, ...drop, ...effect];
+}
+
+// What was shut, and why.
+function shutUnder(target) {
+  const part = target.closest(".shut");
+  if (!part) return [];
+  const { process, from, to } = part.dataset;
+  return ["process " + process + " shut: " + (from === to ? "step " + from : "steps " + from + " to " + to), "its window: " + windowOf(process).window];
 }
 
 function showTip(event) {

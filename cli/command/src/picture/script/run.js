@@ -16,6 +16,9 @@ function isDouble(line) {
   return line !== undefined && line.effect === "take" && line.by.length > 1;
 }
 
+// The window of a process in words, and its spans of shut steps; without windows nothing is shut.
+const windowOf = (process) => (run.windows ? run.windows.lanes[process] : { window: "", shut: [] });
+
 const isOpen = (op) => op.ending === "open";
 const isDropped = (op) => op.ending === "dropped";
 

@@ -17,20 +17,29 @@ function extent(op) {
 }
 
 function makeShapes() {
-  for (const name of ["lanes", "grid", "guides", "bars", "labels", "cuts", "ties", "link", "effects"]) {
+  for (const name of ["lanes", "shut", "grid", "guides", "bars", "labels", "cuts", "ties", "link", "effects"]) {
     layers[name] = svg("g", {}, plot);
   }
   layers.ticks = svg("g", {}, axis);
   layers.flags = svg("g", {}, axis);
   for (let p = 0; p < run.processes; p++) {
     svg("rect", { class: p % 2 ? "lane even" : "lane", x: 0, y: p * LANE, width: "100%", height: LANE }, layers.lanes);
-    html("div", "process " + p, byId("lanes")).style.height = LANE + "px";
+    const label = html("div", "process " + p, byId("lanes"));
+    label.style.height = LANE + "px";
+    if (run.windows) label.title = "its window: " + windowOf(p).window;
+    for (const span of windowOf(p).shut) makeShut(p, span);
   }
   for (const op of run.operations) if (op.first !== undefined) makeBar(op);
   for (const line of run.record) {
     for (const number of line.by) makeMark(line, index.ops.get(number));
     if (isDouble(line)) makeTie(line);
   }
+}
+
+// The part of a lane in which the window of its process was shut.
+function makeShut(process, [from, to]) {
+  const at = { y: process * LANE, height: LANE, "data-process": process, "data-from": from, "data-to": to };
+  shapes.shut.push({ from, to, node: svg("rect", { class: "shut", ...at }, layers.shut) });
 }
 
 function makeBar(op) {
@@ -84,6 +93,7 @@ function place() {
   for (const sheet of [plot, axis]) sheet.setAttribute("width", width());
   plot.setAttribute("height", height);
   axis.setAttribute("height", AXIS);
+  for (const { from, to, node } of shapes.shut) set(node, { x: xAt(from - 1), width: xAt(to) - xAt(from - 1) });
   for (const bar of shapes.bars) placeBar(bar);
   for (const { op, node } of shapes.cuts) placeMark(node, op.dropped, op, markSize());
   for (const { line, op, node } of shapes.marks) placeMark(node, line.at, op, markSize(line));

@@ -10,6 +10,8 @@ function tellNumbers() {
   line.append(" · " + count(run.left.length) + " left at the end");
   const dropped = run.operations.filter(isDropped).length;
   if (dropped) line.append(" · " + count(dropped) + " dropped");
+  if (run.windows) line.append(" · from " + run.windows.start + " on");
+  byId("shut-key").hidden = !run.windows;
 }
 
 function chip(item, more, kind, parent) {
