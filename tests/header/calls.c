@@ -9,7 +9,7 @@
 
 enum { PAINT = 0xa5, SLACK = 8, THREADS = 4, ROUNDS = 25, LARGE_STACK = 1 << 20 };
 
-static uint8_t file[BENCH_FILE], expected[BENCH_REPORT], stream[BENCH_WORK];
+static uint8_t file[BENCH_FILE], expected[BENCH_REPORT], stream[BENCH_WORK], always[BENCH_WINDOWS];
 static size_t file_length, expected_length, stream_length;
 static int passed, failed;
 
@@ -45,11 +45,35 @@ static struct Room *painted(void) {
     return room;
 }
 
-static int still_painted(const struct Room *room) {
-    const uint8_t *byte = (const uint8_t *)room;
-    for (size_t i = 0; i < sizeof *room; i++)
-        if (byte[i] != PAINT) return 0;
+static int all_are(const uint8_t *byte, size_t length, uint8_t value) {
+    for (size_t i = 0; i < length; i++)
+        if (byte[i] != value) return 0;
     return 1;
+}
+
+static int still_painted(const struct Room *room) {
+    return all_are((const uint8_t *)room, sizeof *room, PAINT);
+}
+
+/* Writes a block's two sums. */
+static void seal(uint8_t *block) {
+    uint16_t a = 1, b = 0;
+    for (int i = 0; i < 508; i++) {
+        a = (uint16_t)(a + block[i]);
+        b = (uint16_t)(b + a);
+    }
+    block[508] = (uint8_t)(a >> 8);
+    block[509] = (uint8_t)a;
+    block[510] = (uint8_t)(b >> 8);
+    block[511] = (uint8_t)b;
+}
+
+/* A block within whose windows all eight processes may always work, from 29 February 2024, 0:00:00, on. */
+static void make_always(void) {
+    const uint8_t front[] = {0, 0, 2024 >> 8, 2024 & 255, 2, 29}, entry[] = {0x7f, 0, 0, 1440 >> 8, 1440 & 255};
+    memcpy(always, front, sizeof front);
+    for (size_t process = 0; process < 8; process++) memcpy(always + 10 + 5 * process, entry, sizeof entry);
+    seal(always);
 }
 
 static int is_the_report(uint64_t answer, const uint8_t *report) {
@@ -63,13 +87,13 @@ static void answers_are_taken_apart(void) {
 
 static void least_lengths(void) {
     struct Room *room = painted();
-    expect(bench_replay(file, file_length, room->work, BENCH_WORK - 1, room->report, BENCH_REPORT) == (uint64_t)1 << 32, "replay, work short by one");
-    expect(bench_replay(file, file_length, room->work, BENCH_WORK, room->report, BENCH_REPORT - 1) == (uint64_t)1 << 32, "replay, report short by one");
+    expect(bench_replay(file, file_length, NULL, 0, room->work, BENCH_WORK - 1, room->report, BENCH_REPORT) == (uint64_t)1 << 32, "replay, work short by one");
+    expect(bench_replay(file, file_length, NULL, 0, room->work, BENCH_WORK, room->report, BENCH_REPORT - 1) == (uint64_t)1 << 32, "replay, report short by one");
     expect(bench_read(file, file_length, room->work, BENCH_WORK - 1) == (uint64_t)1 << 32, "read, work short by one");
     expect(bench_write(stream, stream_length, room->out, BENCH_FILE - 1) == (uint64_t)1 << 32, "write, output short by one");
     expect(still_painted(room), "nothing is touched after number 1");
 
-    expect(is_the_report(bench_replay(file, file_length, room->work, BENCH_WORK, room->report, BENCH_REPORT), room->report), "replay, least lengths");
+    expect(is_the_report(bench_replay(file, file_length, NULL, 0, room->work, BENCH_WORK, room->report, BENCH_REPORT), room->report), "replay, least lengths");
     expect(bench_read(file, file_length, room->work, BENCH_WORK) == stream_length, "read, least length");
     expect(memcmp(room->work, stream, BENCH_WORK) == 0, "read, the stream and zeros");
     expect(bench_write(stream, stream_length, room->out, BENCH_FILE) == file_length, "write, least length");
@@ -79,10 +103,10 @@ static void least_lengths(void) {
 
 static void null_with_length_0(void) {
     struct Room *room = painted();
-    expect(BENCH_NUMBER(bench_replay(NULL, 0, room->work, BENCH_WORK, room->report, BENCH_REPORT)) == 2, "replay, no file");
-    expect(BENCH_NUMBER(bench_replay(file, file_length, NULL, 0, room->report, BENCH_REPORT)) == 1, "replay, no work");
-    expect(BENCH_NUMBER(bench_replay(file, file_length, room->work, BENCH_WORK, NULL, 0)) == 1, "replay, no report");
-    expect(BENCH_NUMBER(bench_replay(NULL, 0, NULL, 0, NULL, 0)) == 1, "replay, nothing");
+    expect(BENCH_NUMBER(bench_replay(NULL, 0, NULL, 0, room->work, BENCH_WORK, room->report, BENCH_REPORT)) == 2, "replay, no file");
+    expect(BENCH_NUMBER(bench_replay(file, file_length, NULL, 0, NULL, 0, room->report, BENCH_REPORT)) == 1, "replay, no work");
+    expect(BENCH_NUMBER(bench_replay(file, file_length, NULL, 0, room->work, BENCH_WORK, NULL, 0)) == 1, "replay, no report");
+    expect(BENCH_NUMBER(bench_replay(NULL, 0, NULL, 0, NULL, 0, NULL, 0)) == 1, "replay, nothing");
     expect(BENCH_NUMBER(bench_read(NULL, 0, room->work, BENCH_WORK)) == 2, "read, no file");
     expect(BENCH_NUMBER(bench_read(file, file_length, NULL, 0)) == 1, "read, no work");
     expect(BENCH_NUMBER(bench_write(NULL, 0, room->out, BENCH_FILE)) == 2, "write, no stream");
@@ -91,18 +115,77 @@ static void null_with_length_0(void) {
 }
 
 static void any_alignment(void) {
-    uint8_t *from = (uint8_t *)malloc(BENCH_FILE + SLACK);
+    uint8_t *from = (uint8_t *)malloc(BENCH_FILE + SLACK), windows[BENCH_WINDOWS + SLACK];
     if (!from) exit(1);
     for (size_t at = 0; at < SLACK; at++) {
         struct Room *room = painted();
         uint8_t *work = room->work + at, *report = room->report + SLACK - 1 - at, *out = room->out + at;
         memcpy(from + at, file, file_length);
-        expect(is_the_report(bench_replay(from + at, file_length, work, BENCH_WORK, report, BENCH_REPORT), report), "replay, any alignment");
+        memcpy(windows + at, always, BENCH_WINDOWS);
+        expect(is_the_report(bench_replay(from + at, file_length, NULL, 0, work, BENCH_WORK, report, BENCH_REPORT), report), "replay, any alignment");
+        expect(is_the_report(bench_replay(from + at, file_length, windows + at, BENCH_WINDOWS, work, BENCH_WORK, report, BENCH_REPORT), report),
+               "replay within windows, any alignment");
         expect(bench_read(from + at, file_length, work, BENCH_WORK) == stream_length, "read, any alignment");
         expect(bench_write(work, stream_length, out, BENCH_FILE) == file_length && memcmp(out, file, file_length) == 0, "write, any alignment");
         free(room);
     }
     free(from);
+}
+
+/* A replay within a block that is no block: 13, work zero, the report untouched. */
+static void refused_windows(const uint8_t *windows, size_t length, const char *what) {
+    struct Room *room = painted();
+    expect(bench_replay(file, file_length, windows, length, room->work, BENCH_WORK, room->report, BENCH_REPORT) == (uint64_t)13 << 32, what);
+    expect(all_are(room->work, BENCH_WORK, 0) && all_are(room->work + BENCH_WORK, SLACK, PAINT), "work is zero after number 13, and no more of it");
+    expect(all_are(room->report, sizeof room->report, PAINT), "the report is untouched after number 13");
+    free(room);
+}
+
+/* The same of the good block with one byte changed, and right sums. */
+static void refused_byte(size_t at, uint8_t value, const char *what) {
+    uint8_t block[BENCH_WINDOWS];
+    memcpy(block, always, sizeof block);
+    block[at] = value;
+    seal(block);
+    refused_windows(block, sizeof block, what);
+}
+
+static void bad_windows(void) {
+    uint8_t twice[2 * BENCH_WINDOWS];
+    memcpy(twice, always, BENCH_WINDOWS);
+    memcpy(twice + BENCH_WINDOWS, always, BENCH_WINDOWS);
+    const size_t lengths[] = {1, BENCH_WINDOWS - 1, BENCH_WINDOWS + 1, 2 * BENCH_WINDOWS};
+    for (size_t i = 0; i < sizeof lengths / sizeof *lengths; i++) refused_windows(twice, lengths[i], "windows of another length");
+    twice[511] ^= 1;
+    refused_windows(twice, BENCH_WINDOWS, "windows with a wrong sum");
+    refused_byte(1, 1, "windows with the number 1");
+    refused_byte(3, 2100 & 255, "the year 2100");
+    refused_byte(4, 13, "month 13");
+    refused_byte(5, 30, "30 February");
+    refused_byte(7, 2, "a second past the day");
+    refused_byte(10, 0x80, "weekdays with bit 7, of process 0");
+    refused_byte(46, 1536 >> 8, "an opening past the day, of process 7");
+    refused_byte(49, 1441 & 255, "a closing past the day, of process 7");
+    refused_byte(50, 1, "a byte behind the fields");
+    refused_byte(507, 1, "the last byte before the sums");
+}
+
+static void windows(void) {
+    struct Room *room = painted();
+    uint8_t shut[BENCH_WINDOWS] = {0, 0, 2099 >> 8, 2099 & 255, 12, 31};
+    seal(shut);
+    expect(is_the_report(bench_replay(file, file_length, always, 0, room->work, BENCH_WORK, room->report, BENCH_REPORT), room->report), "windows of length 0");
+    expect(is_the_report(bench_replay(file, file_length, always, BENCH_WINDOWS, room->work, BENCH_WORK, room->report, BENCH_REPORT), room->report),
+           "windows that are always open");
+    uint64_t answer = bench_replay(file, file_length, shut, BENCH_WINDOWS, room->work, BENCH_WORK, room->report, BENCH_REPORT);
+    size_t length = BENCH_LENGTH(answer), waiting = 0;
+    for (size_t i = 0; i + 8 < length; i++) waiting += memcmp(room->report + i, " waiting\n", 9) == 0;
+    expect(BENCH_NUMBER(answer) == 0 && waiting == (size_t)stream[2] * 256 + stream[3], "windows that are shut: all operations wait");
+    expect(all_are(room->work, BENCH_WORK, 0), "work is zero after a replay within windows");
+    /* what comes before 13 */
+    expect(BENCH_NUMBER(bench_replay(NULL, 0, shut, 1, room->work, BENCH_WORK, room->report, BENCH_REPORT)) == 2, "no file and bad windows");
+    expect(BENCH_NUMBER(bench_replay(file, file_length, shut, 1, room->work, BENCH_WORK - 1, room->report, BENCH_REPORT)) == 1, "work short by one and bad windows");
+    free(room);
 }
 
 /* A call made on a thread: which one, and how far below its caller the stack was used. */
@@ -114,7 +197,11 @@ struct Call {
 };
 
 static int replays(struct Room *room) {
-    return is_the_report(bench_replay(file, file_length, room->work, BENCH_WORK, room->report, BENCH_REPORT), room->report);
+    return is_the_report(bench_replay(file, file_length, NULL, 0, room->work, BENCH_WORK, room->report, BENCH_REPORT), room->report);
+}
+
+static int replays_within(struct Room *room) {
+    return is_the_report(bench_replay(file, file_length, always, BENCH_WINDOWS, room->work, BENCH_WORK, room->report, BENCH_REPORT), room->report);
 }
 
 static int reads(struct Room *room) {
@@ -171,9 +258,10 @@ static size_t stack_of(int (*make)(struct Room *)) {
 }
 
 static void stack_used(void) {
-    size_t replay = stack_of(replays), read = stack_of(reads), write = stack_of(writes);
-    printf("stack used: replay %zu, read %zu, write %zu bytes\n", replay, read, write);
-    expect(replay < 38 * 1024 + 512, "a replay uses some 38 KB of stack");
+    size_t replay = stack_of(replays), within = stack_of(replays_within), read = stack_of(reads), write = stack_of(writes);
+    printf("stack used: replay %zu, within windows %zu, read %zu, write %zu bytes\n", replay, within, read, write);
+    if (within > replay) replay = within;
+    expect(replay < 39 * 1024, "a replay uses less than 39 KB of stack");
     expect(replay + 26000 <= BENCH_STACK, "BENCH_STACK leaves 16 KB for the caller, and 10 KB for the thread and the dynamic linker");
     expect(read < 1000 && write < 1000, "a read or a write uses less than 1 KB of stack");
 }
@@ -182,7 +270,7 @@ static void *again_and_again(void *good) {
     struct Room *room = painted();
     *(int *)good = 1;
     for (int i = 0; i < ROUNDS; i++)
-        if (!replays(room) || !reads(room) || !writes(room)) *(int *)good = 0;
+        if (!replays(room) || !replays_within(room) || !reads(room) || !writes(room)) *(int *)good = 0;
     free(room);
     return NULL;
 }
@@ -210,6 +298,9 @@ int main(int count, char **argument) {
     answers_are_taken_apart();
     least_lengths();
     null_with_length_0();
+    make_always();
+    windows();
+    bad_windows();
     any_alignment();
     stack_used();
     threads_at_once();

@@ -1,24 +1,34 @@
-/* Replays the job file on standard input through the C header, and checks the read and the write on the way. */
+/* Replays the job file on standard input through the C header, within the windows of the block in the file that an argument names, and checks
+ * the read and the write on the way. */
 #include <stdio.h>
 #include <string.h>
 
 #include "bench.h"
 
-static uint8_t file[BENCH_FILE + 1], work[BENCH_WORK], report[BENCH_REPORT], out[BENCH_FILE];
+static uint8_t file[BENCH_FILE + 1], windows[BENCH_WINDOWS + 1], work[BENCH_WORK], report[BENCH_REPORT], out[BENCH_FILE];
 
-int main(void) {
-    size_t n = fread(file, 1, sizeof file, stdin);
+static size_t load(const char *name) {
+    FILE *from = name ? fopen(name, "rb") : NULL;
+    size_t n = from ? fread(windows, 1, sizeof windows, from) : 0;
+    if (from) fclose(from);
+    return n;
+}
+
+static int refused(uint64_t answer) {
+    if (BENCH_NUMBER(answer) != 0) printf("refused %u\n", (unsigned)BENCH_NUMBER(answer));
+    return BENCH_NUMBER(answer) != 0;
+}
+
+int main(int count, char **argument) {
+    size_t n = fread(file, 1, sizeof file, stdin), windows_length = load(count > 1 ? argument[1] : NULL);
     uint64_t read = bench_read(file, n, work, sizeof work);
-    if (BENCH_NUMBER(read) != 0) {
-        printf("refused %u\n", (unsigned)BENCH_NUMBER(read));
-        return 0;
-    }
+    if (refused(read)) return 0;
     uint64_t written = bench_write(work, BENCH_LENGTH(read), out, sizeof out);
     if (written != n || memcmp(file, out, n) != 0) {
         puts("the file is not the one that the writer makes");
         return 1;
     }
-    uint64_t replayed = bench_replay(file, n, work, sizeof work, report, sizeof report);
-    fwrite(report, 1, BENCH_LENGTH(replayed), stdout);
+    uint64_t replayed = bench_replay(file, n, windows, windows_length, work, sizeof work, report, sizeof report);
+    if (!refused(replayed)) fwrite(report, 1, BENCH_LENGTH(replayed), stdout);
     return 0;
 }
