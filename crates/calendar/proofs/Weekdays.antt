@@ -1,11 +1,11 @@
 -- Weekdays by division, and back and forth by a day. Assumes nothing.
-use mathlib.Core.Path.{_≡_, refl, sym, _∙_}
+use mathlib.Core.Path.{_≡_, refl, sym, ap, _∙_}
 use mathlib.Core.Logic.{_≢_}
 use Prim.Native.Nat.{ℕ, zero, suc, _+_, _-_, _%_, _≤_}
 use native.Mathlib.Omega.{arith}
 use Rattle.basics.specs.Choice.{same}
 use Rattle.basics.proofs.Choice.{pick-then, pick-else, pick-elim, equal-same, unequal-same, same-equal, same-unequal}
-use Rattle.calendar.specs.Weekdays.{Sunday, weekday, weekday-after, weekday-before}
+use Rattle.calendar.specs.Weekdays.{Sunday, weekday, weekday-after, weekday-before, weekday-ago}
 
 -- after a Sunday comes Monday, before a Monday Sunday
 pub after-sunday : {w : ℕ} → w ≡ 6 → 0 ≡ weekday-after w
@@ -49,3 +49,12 @@ before-after {w} h =
 pub weekday-yesterday : (n : ℕ) → weekday-before (weekday (suc n)) ≡ weekday n
 unfolding weekday
 weekday-yesterday n = before-after (weekday-bound n)
+
+-- `n` days before day n + d the weekday is that of day d
+pub weekday-days-ago : (n d : ℕ) → weekday-ago n (weekday (n + d)) ≡ weekday d
+unfolding weekday-ago
+weekday-days-ago zero d = ap weekday (let none : 0 + d ≡ d = omega arith in none)
+weekday-days-ago (suc n) d =
+    ap (λ (m : ℕ). weekday-before (weekday-ago n (weekday m))) (let one-more : suc n + d ≡ n + suc d = omega arith in one-more)
+    ∙ ap weekday-before (weekday-days-ago n (suc d))
+    ∙ weekday-yesterday d

@@ -35,3 +35,8 @@ weekday-before w = pick (same w Monday) Sunday (w - 1)
 unfoldable pub weekday : ℕ → ℕ
 weekday zero = Saturday
 weekday (suc n) = weekday-after (weekday n)
+
+-- the weekday `n` days before a day of weekday `w`
+unfoldable pub weekday-ago : ℕ → ℕ → ℕ
+weekday-ago zero w = w
+weekday-ago (suc n) w = weekday-before (weekday-ago n w)

@@ -14,7 +14,7 @@ use Rattle.calendar.proofs.Weekdays.{weekday-yesterday}
 use Rattle.windows.specs.Fields.{year, month, day, weekdays, opening, closing, booked-processes, day-minutes, day-seconds}
 use Rattle.windows.specs.Fine.{Fine-block}
 use Rattle.windows.specs.Open.{closes, in-window, has-weekday, open-on, since-midnight, day-of, second-of, is-open}
-use Rattle.windows.proofs.Over.{closes-bound}
+use Rattle.windows.proofs.Claimed.{closes-bound}
 use Rattle.idling.specs.Minutes.{start-weekday, window-of, holds, open-at}
 
 -- whole minutes are passed at the same time in seconds and in minutes

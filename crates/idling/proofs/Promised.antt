@@ -18,7 +18,7 @@ use Rattle.windows.specs.Refused.{no-block, bad-windows}
 use Rattle.windows.specs.Windowed.{windowed}
 use Rattle.windows.proofs.Fine.{fine}
 use Rattle.windows.proofs.Nothing.{without-block}
-use Rattle.windows.proofs.Over.{closes-bound}
+use Rattle.windows.proofs.Claimed.{closes-bound}
 use Rattle.idling.specs.declared.Window.{Window}
 use Rattle.idling.specs.Minutes.{window-of, no-window, open-at, InDays}
 use Rattle.idling.specs.Eight.{Eight}

@@ -3,6 +3,7 @@ pub mod Fields
 pub mod Refused
 pub mod Fine
 pub mod Open
+pub mod Claims
 pub mod Windowed
 pub mod Examples
 pub mod TurnedBack

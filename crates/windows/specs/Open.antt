@@ -1,7 +1,6 @@
 -- Open or shut. Document 02, request 6: "Step k falls k − 1 seconds after the start, Gregorian calendar, no clock changes."
-use mathlib.Core.Path.{_≡_}
 use Prim.Native.Nat.{ℕ, _+_, _-_, _*_, _/_, _%_, _^_}
-use mathlib.Core.Bool.{Bool, false, not, _&&_, _||_}
+use mathlib.Core.Bool.{Bool, not, _&&_, _||_}
 use mathlib.Core.List.{List}
 use Rattle.basics.specs.Choice.{pick, same, less}
 use Rattle.calendar.specs.Dates.{day-number}
@@ -36,13 +35,9 @@ day-of b k = day-number (year b) (month b) (day b) + since-midnight b k / day-se
 unfoldable pub second-of : List ℕ → ℕ → ℕ
 second-of b k = since-midnight b k % day-seconds
 
--- is the window of process p open at step k? Today's may be, or yesterday's, whose midnight is a day further back; an earlier one never (`NeverEarlier`)
+-- is the window of process p open at step k? Today's may be, or yesterday's, whose midnight is a day further back; an earlier one never (`OnSomeDay`)
 unfoldable pub is-open : List ℕ → ℕ → ℕ → Bool
 is-open b p k =
     let today : ℕ = weekday (day-of b k) in
     let s : ℕ = second-of b k in
     open-on b p today s || open-on b p (weekday-before today) (s + day-seconds)
-
--- a window of two or more days ago is over, whatever its weekday
-pub record NeverEarlier : Type 0 where
-  pub over : (from to s n : ℕ) → (less day-minutes from ≡ false) → (less day-minutes to ≡ false) → in-window from to (s + (2 + n) * day-seconds) ≡ false
