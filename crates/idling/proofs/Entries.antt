@@ -19,8 +19,8 @@ use Rattle.job.specs.Job.{recorded, job-of}
 use Rattle.job.specs.Idle.{nobody, idle-slot, idle-at}
 use Rattle.job.specs.Ready.{Ready, Named}
 use Rattle.windows.specs.Refused.{no-block}
-use Rattle.windows.specs.Open.{is-open}
-use Rattle.windows.specs.Windowed.{is-shut, windowed}
+use Rattle.hours.specs.Open.{is-open}
+use Rattle.hours.specs.Windowed.{is-shut, windowed}
 use Rattle.idling.specs.Rewritten.{Rewritten}
 use Rattle.idling.specs.Entries.{entry-kept, first-entry, entries-kept, booked-at}
 

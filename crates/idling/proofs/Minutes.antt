@@ -13,8 +13,8 @@ use Rattle.calendar.specs.Weekdays.{weekday, weekday-before, weekday-after}
 use Rattle.calendar.proofs.Weekdays.{weekday-yesterday}
 use Rattle.windows.specs.Fields.{year, month, day, weekdays, opening, closing, booked-processes, day-minutes, day-seconds}
 use Rattle.windows.specs.Fine.{Fine-block}
-use Rattle.windows.specs.Open.{closes, in-window, has-weekday, open-on, since-midnight, day-of, second-of, is-open}
-use Rattle.windows.proofs.Claimed.{closes-bound}
+use Rattle.hours.specs.Open.{closes, in-window, has-weekday, open-on, since-midnight, day-of, second-of, is-open}
+use Rattle.hours.proofs.Claimed.{closes-bound}
 use Rattle.idling.specs.Minutes.{start-weekday, window-of, holds, open-at}
 
 -- whole minutes are passed at the same time in seconds and in minutes

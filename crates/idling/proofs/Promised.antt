@@ -13,12 +13,12 @@ use Rattle.job.specs.Job.{job-of}
 use Rattle.job.specs.Ready.{Ready, Named}
 use Rattle.windows.specs.Fields.{second, opening, closing}
 use Rattle.windows.specs.Fine.{Fine-block}
-use Rattle.windows.specs.Open.{since-midnight, is-open}
+use Rattle.hours.specs.Open.{since-midnight, is-open}
 use Rattle.windows.specs.Refused.{no-block, bad-windows}
-use Rattle.windows.specs.Windowed.{windowed}
+use Rattle.hours.specs.Windowed.{windowed}
 use Rattle.windows.proofs.Fine.{fine}
-use Rattle.windows.proofs.Nothing.{without-block}
-use Rattle.windows.proofs.Claimed.{closes-bound}
+use Rattle.hours.proofs.Nothing.{without-block}
+use Rattle.hours.proofs.Claimed.{closes-bound}
 use Rattle.idling.specs.declared.Window.{Window}
 use Rattle.idling.specs.Minutes.{window-of, no-window, open-at, InDays}
 use Rattle.idling.specs.Eight.{Eight}

@@ -9,7 +9,7 @@ use Rattle.job.specs.Slot.{slot-of, process-of}
 use Rattle.job.specs.Stream.{operations}
 use Rattle.job.specs.Idle.{nobody}
 use Rattle.windows.specs.Refused.{no-block}
-use Rattle.windows.specs.Open.{is-open}
+use Rattle.hours.specs.Open.{is-open}
 use Rattle.idling.specs.declared.Window.{Window}
 use Rattle.idling.specs.Minutes.{no-window, open-at}
 

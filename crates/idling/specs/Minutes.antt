@@ -11,7 +11,7 @@ use Rattle.job.specs.Limits.{field}
 use Rattle.calendar.specs.Dates.{day-number}
 use Rattle.calendar.specs.Weekdays.{weekday, weekday-before, weekday-after}
 use Rattle.windows.specs.Fields.{year, month, day, weekdays, opening, closing, day-minutes}
-use Rattle.windows.specs.Open.{closes, has-weekday}
+use Rattle.hours.specs.Open.{closes, has-weekday}
 use Rattle.idling.specs.declared.Window.{Window}
 
 -- the weekday of the start

@@ -10,7 +10,7 @@ use Rattle.job.specs.Idle.{idle-at}
 use Rattle.job.proofs.Accepted.{Good-file}
 use Rattle.job.proofs.Recorded.{owner-said}
 use Rattle.job.proofs.View.{fine-processes, fine-owner, stream-good}
-use Rattle.windows.specs.Windowed.{windowed}
+use Rattle.hours.specs.Windowed.{windowed}
 use Rattle.theory.proofs.Lost.{Owned}
 use Rattle.theory.proofs.Nobody.{Free}
 use Rattle.replayer.specs.Replay.{job-in, processes-in, job-run}

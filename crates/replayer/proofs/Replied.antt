@@ -22,7 +22,7 @@ use Rattle.job.specs.Ready.{Ready, Named}
 use Rattle.job.proofs.Accepted.{Good-file, accepted-good}
 use Rattle.job.proofs.View.{filled-long, filled-ready, filled-named, filled-job}
 use Rattle.windows.specs.Refused.{bad-windows}
-use Rattle.windows.specs.Windowed.{windowed}
+use Rattle.hours.specs.Windowed.{windowed}
 use Rattle.wording.specs.Report.{report}
 use Rattle.machine.specs.Explained.{Explained}
 use Rattle.theory.specs.Bounded.{Bounded}

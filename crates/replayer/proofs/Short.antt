@@ -17,7 +17,7 @@ use Rattle.job.proofs.Accepted.{Good-file, accepted-good}
 use Rattle.job.proofs.Padded.{fine-counts}
 use Rattle.job.proofs.Recorded.{owner-said, field-said}
 use Rattle.job.proofs.View.{stream-good, stream-bytes}
-use Rattle.windows.specs.Windowed.{windowed}
+use Rattle.hours.specs.Windowed.{windowed}
 use Rattle.wording.specs.Report.{report}
 use Rattle.wording.proofs.Sizes.{Fits, report-bounded}
 use Rattle.replayer.specs.Replay.{job-in, job-run}

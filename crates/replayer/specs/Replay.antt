@@ -10,7 +10,7 @@ use Rattle.job.specs.File.{file-refusal, stream-of}
 use Rattle.job.specs.Calls.{small-work, held}
 use Rattle.job.specs.Job.{Job, job-of}
 use Rattle.windows.specs.Refused.{bad-windows}
-use Rattle.windows.specs.Windowed.{is-shut, windowed}
+use Rattle.hours.specs.Windowed.{is-shut, windowed}
 use Rattle.wording.specs.Report.{report}
 
 -- number 1: "report under 32,768 bytes, or work under 17,710"

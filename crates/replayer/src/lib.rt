@@ -16,7 +16,7 @@ ghost use Rattle.job.specs.File.{zeros};
 ghost use Rattle.job.specs.Job.{job-of};
 ghost use Rattle.job.specs.Ready.{Ready, Named};
 ghost use Rattle.windows.specs.Refused.{bad-windows};
-ghost use Rattle.windows.specs.Windowed.{windowed};
+ghost use Rattle.hours.specs.Windowed.{windowed};
 ghost use Rattle.wording.specs.Report as Report;
 ghost use Rattle.machine.specs.Explained.{Explained};
 ghost use Rattle.theory.specs.Bounded.{Bounded};

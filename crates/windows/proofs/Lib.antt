@@ -1,5 +1,3 @@
--- Laws of the window block: what is known of one that is not turned back, what is claimed of windows, and a job without a block.
+-- Laws of the window block: what is known of one that is not turned back.
 pub mod Tests
 pub mod Fine
-pub mod Claimed
-pub mod Nothing

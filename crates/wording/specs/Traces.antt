@@ -44,8 +44,8 @@ use Rattle.calendar.specs.Dates.{from-to, is-date, day-number}
 use Rattle.calendar.specs.Weekdays.{weekday-after, weekday-before, weekday}
 use Rattle.windows.specs.Fields.{year, month, day, second, entry-at, weekdays, opening, closing}
 use Rattle.windows.specs.Refused.{bad-start, bad-window, bad-entries, bad-rest, bad-block, no-block, bad-windows}
-use Rattle.windows.specs.Open.{closes, in-window, has-weekday, open-on, since-midnight, day-of, second-of, is-open}
-use Rattle.windows.specs.Windowed.{is-shut, windowed}
+use Rattle.hours.specs.Open.{closes, in-window, has-weekday, open-on, since-midnight, day-of, second-of, is-open}
+use Rattle.hours.specs.Windowed.{is-shut, windowed}
 use Rattle.windows.specs.Examples as Blocks
 use Rattle.windows.specs.Examples.{window, windows}
 use Rattle.wording.specs.WindowTraces.{window-traces, booked, promised-booked}

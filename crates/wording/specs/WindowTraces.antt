@@ -11,7 +11,7 @@ use Rattle.job.specs.File.{file-of, file-refusal}
 use Rattle.job.specs.Job.{job-of}
 use Rattle.job.specs.Examples.{put, take, stream}
 use Rattle.windows.specs.Refused.{bad-windows}
-use Rattle.windows.specs.Windowed.{windowed}
+use Rattle.hours.specs.Windowed.{windowed}
 use Rattle.windows.specs.Examples.{window, windows}
 use Rattle.wording.specs.Report.{report}
 

@@ -2,7 +2,7 @@
 use mathlib.Core.Path.{sym}
 use borrow.Author.Needs.{needs}
 use Rattle.basics.proofs.Choice.{pick-then, pick-else, lt-less, le-less}
-use Rattle.windows.specs.Open.{closes}
+use Rattle.hours.specs.Open.{closes}
 use Rattle.idling.proofs.closes.Statement.{statement}
 use Rattle.idling.proofs.closes.Tie as tie
 

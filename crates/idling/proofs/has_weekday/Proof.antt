@@ -2,7 +2,7 @@
 use mathlib.Core.Path.{refl}
 use borrow.Author.Needs.{needs}
 use Rattle.basics.specs.Choice.{same}
-use Rattle.windows.specs.Open.{has-weekday}
+use Rattle.hours.specs.Open.{has-weekday}
 use Rattle.idling.proofs.has_weekday.Statement.{statement}
 use Rattle.idling.proofs.has_weekday.Tie as tie
 

@@ -3,7 +3,7 @@ use mathlib.Core.Path.{ap, ap₂, _∙_}
 use native.Mathlib.Omega.{arith}
 use borrow.Author.Needs.{needs}
 use Rattle.calendar.specs.Weekdays.{weekday-before, weekday-after}
-use Rattle.windows.specs.Open.{closes, has-weekday}
+use Rattle.hours.specs.Open.{closes, has-weekday}
 use Rattle.idling.specs.Minutes.{window-of}
 use Rattle.idling.proofs.Weekdays.{start-bound, before-bound, after-bound}
 use Rattle.idling.proofs.window_of.Statement.{statement}

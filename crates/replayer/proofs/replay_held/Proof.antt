@@ -4,7 +4,7 @@ use Prim.Native.Nat.{ℕ, _≤_}
 use lib.ListN.{length, take}
 use Rattle.job.specs.Job.{job-of}
 use Rattle.job.specs.Ready.{Ready, Named}
-use Rattle.windows.specs.Windowed.{windowed}
+use Rattle.hours.specs.Windowed.{windowed}
 use Rattle.wording.specs.Report.{report}
 use Rattle.report.specs.Reported.{Reported}
 use Rattle.replayer.proofs.Cleared.{front-length, cleared}

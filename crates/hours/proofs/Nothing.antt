@@ -9,9 +9,9 @@ use Rattle.job.specs.Job.{Job}
 use Rattle.job.specs.Slot.{process-of}
 use Rattle.job.specs.Refusals.{outside}
 use Rattle.job.specs.Idle.{idle-at, idle-slot}
 use Rattle.windows.specs.Refused.{no-block}
-use Rattle.windows.specs.Open.{is-open}
-use Rattle.windows.specs.Windowed.{is-shut, windowed}
+use Rattle.hours.specs.Open.{is-open}
+use Rattle.hours.specs.Windowed.{is-shut, windowed}
 
 -- a job in which no step is idle
 idle-nowhere : (idle : ℕ → Bool) (j : Job) → ((k : ℕ) → idle k ≡ false) → idle-at idle j ≡ j

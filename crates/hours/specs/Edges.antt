@@ -14,9 +14,9 @@ use Rattle.calendar.specs.Years.{is-leap, year-length, days-of-years}
 use Rattle.calendar.specs.Months.{common-lengths, month-length, days-of-months}
 use Rattle.calendar.specs.Dates.{day-number}
 use Rattle.calendar.specs.Weekdays.{weekday, weekday-after, weekday-before}
 use Rattle.windows.specs.Fields.{year, month, day, second, entry-at, weekdays, opening, closing}
-use Rattle.windows.specs.Open.{closes, in-window, has-weekday, open-on, since-midnight, day-of, second-of, is-open}
+use Rattle.hours.specs.Open.{closes, in-window, has-weekday, open-on, since-midnight, day-of, second-of, is-open}
 use Rattle.windows.specs.Examples.{window, start, windows}
 
 -- "bit 0 Monday to bit 6 Sunday"
 abbrev pub Mo : ℕ

@@ -8,10 +8,10 @@ use mathlib.Core.List.{List}
 use Rattle.basics.specs.Choice.{less}
 use Rattle.basics.proofs.Choice.{both, compare, pick-then, pick-else, lt-less, le-less}
 use Rattle.calendar.specs.Weekdays.{weekday, weekday-before, weekday-ago}
 use Rattle.windows.specs.Fields.{weekdays, opening, closing, booked-processes, day-minutes, day-seconds}
 use Rattle.windows.specs.Fine.{Fine-block}
-use Rattle.windows.specs.Open.{closes, in-window, has-weekday, open-on, day-of, second-of, is-open}
-use Rattle.windows.specs.Claims.{WindowClaims, EndsOfDay, OnSomeDay, Belongs}
+use Rattle.hours.specs.Open.{closes, in-window, has-weekday, open-on, day-of, second-of, is-open}
+use Rattle.hours.specs.Claims.{WindowClaims, EndsOfDay, OnSomeDay, Belongs}
 
 -- one that closes before it opens closes on the next day, any other on the same
 module _ {from to : ℕ} where

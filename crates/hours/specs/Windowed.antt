@@ -7,8 +7,8 @@ use Rattle.job.specs.Job.{Job}
 use Rattle.job.specs.Slot.{process-of}
 use Rattle.job.specs.Refusals.{outside}
 use Rattle.job.specs.Idle.{idle-at}
 use Rattle.windows.specs.Refused.{no-block}
-use Rattle.windows.specs.Open.{is-open}
+use Rattle.hours.specs.Open.{is-open}
 
 -- is step k, one of the schedule's, outside its process's window?
 unfoldable pub is-shut : List ℕ → Job → ℕ → Bool

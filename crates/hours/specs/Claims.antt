@@ -4,8 +4,8 @@ use Prim.Native.Nat.{ℕ, _+_, _*_, _≤_, _<_}
 use mathlib.Core.Bool.{true, false}
 use mathlib.Core.List.{List}
 use Rattle.calendar.specs.Weekdays.{weekday, weekday-ago}
 use Rattle.windows.specs.Fields.{day-minutes, day-seconds}
-use Rattle.windows.specs.Open.{closes, in-window, open-on, day-of, second-of, is-open}
+use Rattle.hours.specs.Open.{closes, in-window, open-on, day-of, second-of, is-open}
 
 -- a window from one minute to another
 pub record WindowClaims (from to : ℕ) : Type 0 where

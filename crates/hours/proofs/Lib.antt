@@ -1,0 +1,3 @@
+-- Laws of windows: what is claimed of them, and a job without a block.
+pub mod Claimed
+pub mod Nothing
