@@ -43,7 +43,7 @@ Su = 64
 abbrev pub daily : ℕ
 daily = 127
 
--- starts in the second week of January 2000, each at a second of the day: Thursday the 6th, and the days by their names
+-- starts in January 2000, from Wednesday the 5th to Monday the 10th, each at a second of the day
 unfoldable pub wednesday : ℕ → List (List ℕ) → List ℕ
 wednesday s entries = windows 2000 1 5 s entries
 

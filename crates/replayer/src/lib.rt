@@ -1,4 +1,4 @@
-// The replay of a job file: read, run, report.
+// The replay of a job file: read, shut, run, report.
 use idling::shut;
 use job::Limits;
 use job::Reply;

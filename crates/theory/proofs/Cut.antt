@@ -1,5 +1,5 @@
--- A job whose entries are idle here and there does what the job with them cut out does, step numbers kept: for every job, every schedule and whatever
--- entries. Assumes nothing.
+-- A job whose entries are idle here and there does what the job with them cut out does, step numbers kept: for every job none of whose operations is
+-- nobody's, every schedule and whatever entries. Assumes nothing else.
 pub mod Entries
 pub mod Searches
 pub mod Logs
