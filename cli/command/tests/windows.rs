@@ -120,6 +120,15 @@ fn what_was_found_and_what_is_allowed() {
         ("process 2 Mon 06:00 to 25:00", "'25:00'", closing),
         ("process 2 Mon 06:00 to 07:00 08:00 to 09:00", "'08:00'", comment),
         ("process 2 always Mon", "'Mon'", comment),
+        ("process 2 shut Mon", "'Mon'", comment),
+        ("process 2 never Mon 06:00 to 07:00", "'Mon'", opening),
+        ("process 2 daily Mon 06:00 to 07:00", "'Mon'", opening),
+        ("process 2 never daily 06:00 to 07:00", "'daily'", opening),
+        ("process 2 Mon never 06:00 to 07:00", "'never'", more),
+        ("process 2 Mon daily 06:00 to 07:00", "'daily'", more),
+        ("process 2 Mon always", "'always'", more),
+        ("process 2 Mon,daily 06:00 to 07:00", "'Mon,daily'", days),
+        ("process 2 never, 06:00 to 07:00", "'never,'", days),
         ("start 2024-02-29 00:00", "a second start", "one"),
     ] {
         told(line, found, allowed);
