@@ -206,6 +206,7 @@ fn who_has_a_window_is_said() {
         ("", "no process has a window, so all are shut"),
         ("process 2 never 06:00 to 07:00", "no process has a window, so all are shut"),
         ("process 2 Mon 06:00 to 06:00", "no process has a window, so all are shut"),
+        ("process 2 daily 24:00 to 00:00", "no process has a window, so all are shut"),
         ("process 2 Mon 06:00 to 07:00", "process 2 has a window, 0, 1, 3, 4, 5, 6 and 7 are shut"),
         ("others always\nprocess 2 shut", "processes 0, 1, 3, 4, 5, 6 and 7 have a window, 2 is shut"),
     ] {

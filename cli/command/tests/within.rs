@@ -152,10 +152,12 @@ fn steps_of_the_sample_in_words() {
     ran.is(0, steps, "");
     let only = room.bench("steps satellite.job --windows satellite.win --op 2").out;
     assert_eq!(only.lines().count(), 4);
-    room.write("none.windows", "start 2024-02-29 23:59:50\n");
-    room.bench("windows none.windows").is(0, "", "none.win: ");
-    let out = room.bench("steps satellite.job --windows none.win").out;
-    assert_eq!(out.matches("  /    shut: its process has no window").count(), 16, "{out}");
+    for (name, lines) in [("none", ""), ("edge", "others daily 24:00 to 00:00\n")] {
+        room.write(&format!("{name}.windows"), format!("start 2024-02-29 23:59:50\n{lines}"));
+        room.bench(&format!("windows {name}.windows")).is(0, "", "no process has a window");
+        let out = room.bench(&format!("steps satellite.job --windows {name}.win")).out;
+        assert_eq!(out.matches("  /    shut: its process has no window").count(), 16, "{out}");
+    }
 }
 
 #[test]
