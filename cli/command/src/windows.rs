@@ -32,7 +32,7 @@ pub fn text(path: &Path) -> Result<Status, Failure> {
         Ok(Some(windows)) => output::print(print::windows(&windows)).map(|()| Status::Fine),
         Ok(None) => Err(Failure(format!("{} is empty: that is no window block, and shuts nothing.", input::name(path)))),
         Err(refusal) => {
-            say(&format!("{}: {refusal}. `bench why --windows` says more.", input::name(path)));
+            input::refused_block(path, refusal);
             Ok(Status::Refused)
         }
     }
