@@ -29,7 +29,15 @@ pub fn run(arguments: &ReplayArguments) -> Result<Status, Failure> {
     let out = arguments.out.as_deref();
     match (out, &arguments.files[..], list) {
         (None, [file], None) if !file.is_dir() => single(&inputs[0], &block, |refusal| input::refused(file, windows, refusal)),
-        _ => several(&inputs, &block, out),
+        _ => {
+            let tally = several(&inputs, &block, out)?;
+            // the lines of the files do not say whose number 13 is
+            if let Some((windows, refusal)) = windows.zip(tally.of_windows()) {
+                input::refused_block(windows, refusal);
+            }
+            say(&tally);
+            Ok(tally.status())
+        }
     }
 }
 
@@ -46,7 +54,8 @@ fn single(input: &Input, block: &[u8], told: impl FnOnce(Refusal)) -> Result<Sta
     }
 }
 
-fn several(inputs: &[Input], block: &[u8], out: Option<&Path>) -> Result<Status, Failure> {
+/// Many jobs, and what came of all.
+fn several(inputs: &[Input], block: &[u8], out: Option<&Path>) -> Result<Tally, Failure> {
     out.map_or(Ok(()), |folder| folders(folder, inputs))?;
     // the lines of files that went well are for programs
     let attended = io::stdout().is_terminal();
@@ -74,8 +83,7 @@ fn several(inputs: &[Input], block: &[u8], out: Option<&Path>) -> Result<Status,
         })?;
     }
     bar.finish_and_clear();
-    say(&tally);
-    Ok(tally.status())
+    Ok(tally)
 }
 
 /// Makes the folder for the reports, and those that they need in it.

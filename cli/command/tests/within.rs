@@ -107,6 +107,21 @@ fn many_files_within_one_block() {
 }
 
 #[test]
+fn a_refused_block_is_told_once_for_many_files() {
+    let room = room("many-refused");
+    room.write("cards/a.job", room.read("satellite.job"));
+    room.write("cut.job", &room.read("satellite.job")[1..]);
+    let block = "cut.win: refused 13: the window block is neither empty";
+    for files in ["satellite.job listing.job", "cards", "satellite.job listing.job --out reports", "cards --out reports"] {
+        let said = room.bench(&format!("replay {files} --windows cut.win")).said;
+        assert_eq!((said.matches(block).count(), said.matches("`bench why --windows` says more.\n").count()), (1, 1), "{said}");
+    }
+    // of a block that no job was held to, nothing is said
+    let said = room.bench("replay cut.job cut.job --windows cut.win").said;
+    assert_eq!(said, "2 files: 0 replayed, 2 refused (2 with number 2)\n");
+}
+
+#[test]
 fn reports_within_windows_are_those_of_the_second_replayer() {
     let mut differ = 0;
     for seed in 0..2_000 {
