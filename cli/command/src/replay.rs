@@ -25,8 +25,11 @@ pub fn run(arguments: &ReplayArguments) -> Result<Status, Failure> {
     let (list, windows) = (arguments.files_from.as_deref(), arguments.within.windows.as_deref());
     input::apart(arguments.files.iter().map(PathBuf::as_path).chain(list).chain(windows))?;
     let inputs = inputs::all(&arguments.files, list)?;
-    let block = input::block(windows)?;
     let out = arguments.out.as_deref();
+    let block = match input::block(windows) {
+        Err(Failure(why)) if out.is_some() => return unread(&inputs, why),
+        block => block?,
+    };
     match (out, &arguments.files[..], list) {
         (None, [file], None) if !file.is_dir() => single(&inputs[0], &block, |refusal| input::refused(file, windows, refusal)),
         _ => {
@@ -84,6 +87,17 @@ fn several(inputs: &[Input], block: &[u8], out: Option<&Path>) -> Result<Tally, 
     }
     bar.finish_and_clear();
     Ok(tally)
+}
+
+/// Nothing is replayed, since the block could not be read: each file has its line all the same.
+fn unread(inputs: &[Input], why: String) -> Result<Status, Failure> {
+    say(&why);
+    let failed = Answer::Failed(why);
+    let mut tally = Tally::default();
+    inputs.iter().for_each(|_| tally.add(&failed));
+    output::print(inputs.iter().map(|input| failed.line(&input.name)).collect::<String>())?;
+    say(&tally);
+    Ok(tally.status())
 }
 
 /// Makes the folder for the reports, and those that they need in it.

@@ -70,6 +70,23 @@ fn a_block_that_cannot_be_read_is_told_by_every_command() {
 }
 
 #[test]
+fn a_block_that_cannot_be_read_fails_every_file() {
+    let room = room("unread-many");
+    room.write("list", "satellite.job\nlisting.job\n");
+    let lines = "failed\tsatellite.job\nfailed\tlisting.job\n";
+    let said = "none.win could not be read: No such file or directory (os error 2)\n2 files: 0 replayed, 0 refused, 2 not read or not written\n";
+    for files in ["satellite.job listing.job", "--files-from list"] {
+        let ran = room.bench(&format!("replay {files} --windows none.win --out reports"));
+        ran.is(2, lines, said);
+        assert_eq!(ran.said, said);
+    }
+    room.bench("replay satellite.job --windows none.win --out reports").is(2, "failed\tsatellite.job\n", "1 file: 0 replayed");
+    assert!(!room.has("reports/satellite.txt"));
+    // reports that would be printed are not
+    room.bench("replay satellite.job listing.job --windows none.win").fails("none.win could not be read: ");
+}
+
+#[test]
 fn a_refused_block_is_told_by_every_command() {
     let room = room("refused-windows");
     for words in ["replay", "reading --doubles", "steps", "picture"] {
