@@ -1,7 +1,7 @@
 //! The turns of a run: whose each step was, and which of them fell outside the window of their process.
 
 use crate::windows::words::{moment, window};
-use crate::words::{counted, grouped};
+use crate::words::{counted, step};
 use pigwazet::report::{Ending, Operation};
 use pigwazet::{Hours, Job, Refusal, Turn, Windows};
 
@@ -71,7 +71,6 @@ impl Turns {
 
 /// `1 turn, step 11`; `3 turns from step 11 to step 15`; nothing of none.
 pub fn turns_told(steps: &[u16]) -> Option<String> {
-    let step = |step: u16| format!("step {}", grouped(usize::from(step)));
     match steps {
         [] => None,
         [one] => Some(format!("1 turn, {}", step(*one))),

@@ -280,6 +280,21 @@ It was taken once: no double.
 }
 
 #[test]
+fn numbers_are_grouped_in_all_sentences() {
+    let room = room("grouped");
+    // step 1,001 is the last of Thursday
+    room.write("long.txt", "queue\nprocesses 2\nput 0 500\norder 1 x 1000 0 x 2001\n");
+    room.write("long.windows", "start 2024-02-29 23:43:19\nothers always\nprocess 0 Thu 00:00 to 24:00\n");
+    room.bench("make long.txt").is(0, "", "queue, 2 processes, 1 operation, 3,001 steps\n");
+    room.bench("windows long.windows").is(0, "", "long.win: ");
+    let told = "(open since step 1,001; shut out of 2,000 turns from step 1,002 to step 3,001).\n";
+    room.bench("reading long.job 1 --windows long.win").tells(0, told);
+    room.bench("why long.job --windows long.win").tells(0, "2,000 turns from step 1,002 to step 3,001, of 2,001 in all.");
+    room.bench("reading long.job 1")
+        .tells(0, "(steps 1,001 to 1,004).\nThe record has it coming into the queue at step 1,003.\n");
+}
+
+#[test]
 fn who_ended_was_not_shut_out() {
     for seed in 0..400 {
         let (file, windows) = booked(seed);

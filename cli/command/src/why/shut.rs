@@ -4,7 +4,7 @@ use crate::input;
 use crate::status::Failure;
 use crate::turns::{Turns, turns_told};
 use crate::windows::words::window;
-use crate::words::list;
+use crate::words::{grouped, list};
 use pigwazet::report::{Ending, Run};
 
 /// A line for each process that was shut out of a turn.
@@ -25,7 +25,8 @@ fn of_process(turns: &Turns, run: &Run, process: u8) -> Option<String> {
     };
     let [open, waiting] =
         [(Ending::Open, "open"), (Ending::Waiting, "not begun")].map(|(ending, word)| left(&those(ending), word));
-    Some(format!("Process {process} ({own}) was shut out of {}, of {all} in all.{open}{waiting}\n", turns_told(&shut)?))
+    let (out, all) = (turns_told(&shut)?, grouped(all));
+    Some(format!("Process {process} ({own}) was shut out of {out}, of {all} in all.{open}{waiting}\n"))
 }
 
 /// Which operations were left so.
