@@ -189,8 +189,11 @@ fn windows_are_made_beside_their_text_and_printed() {
     room.bench("windows again.windows")
         .fails("again.win is there already, is something else and stays as it is: name the file with --out to replace it.");
     assert_eq!(room.read("again.win"), room.read("satellite.win"));
-    let ran = room.bench_with("windows -", b"start 2024-02-29 23:59:50\n");
-    assert_eq!((ran.status, ran.said.as_str(), ran.out.len() >= 500), (0, "", true));
+    // standard output has the block alone
+    let block = String::from_utf8_lossy(&room.read("satellite.win")).into_owned();
+    for words in ["windows -", "windows - -o -", "windows satellite.windows -o -"] {
+        room.bench_with(words, text.as_bytes()).is(0, &block, &format!("standard output: {made}"));
+    }
     room.bench("windows satellite.win")
         .fails("satellite.win is no text. If it is a window block, it is made already: `bench windows --text` prints it.");
     room.bench("windows none").fails("none could not be read: ");
