@@ -295,6 +295,27 @@ fn numbers_are_grouped_in_all_sentences() {
 }
 
 #[test]
+fn turns_before_and_behind_an_open_time_are_told_apart() {
+    let room = room("two-spans");
+    // open from step 121 to step 180; the put's first turns are shut, one is open, the others are shut again
+    room.write("hour.windows", "start 2024-02-29 12:00:00\nothers always\nprocess 0 Thu 12:02 to 12:03\n");
+    room.bench("windows hour.windows").is(0, "", "hour.win: ");
+    for (order, shut) in [
+        ("0 x 3 1 x 126 0 1 x 1000 0 x 2", "5 turns in steps 1 to 3 and steps 1,131 to 1,132"),
+        ("1 x 9 0 1 x 119 0 1 x 1000 0 x 2", "3 turns in step 10 and steps 1,131 to 1,132"),
+        ("1 x 129 0 1 x 1000 0 x 2", "2 turns from step 1,131 to step 1,132"),
+    ] {
+        room.write("hour.txt", format!("queue\nprocesses 2\nput 0 500\norder {order}\n"));
+        room.bench("make hour.txt -o hour.job").is(0, "", "hour.job: ");
+        let why = format!("\nProcess 0 (Thu 12:02 to 12:03) was shut out of {shut}, of ");
+        room.bench("why hour.job --windows hour.win").tells(0, &why);
+        // of an operation those behind its first step are told
+        let told = "(open since step 130; shut out of 2 turns from step 1,131 to step 1,132)";
+        room.bench("reading hour.job 1 --windows hour.win").tells(0, told);
+    }
+}
+
+#[test]
 fn who_ended_was_not_shut_out() {
     for seed in 0..400 {
         let (file, windows) = booked(seed);
