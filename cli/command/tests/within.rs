@@ -196,6 +196,28 @@ fn steps_of_the_sample_in_words() {
 }
 
 #[test]
+fn steps_of_an_operation_that_was_shut_out() {
+    let room = room("steps-shut-out");
+    room.write("none.windows", "start 2024-02-29 23:59:50\n");
+    room.bench("windows none.windows").is(0, "", "none.win: ");
+    let op = |words: &str| room.bench(&format!("steps satellite.job {words}"));
+    let half = op("--op 2 --windows satellite.win");
+    assert_eq!(half.said, "Operation 2 did not end; it was shut out of 2 turns from step 11 to step 13.\n");
+    let never = op("--op 2 --windows none.win");
+    assert_eq!(
+        never.said,
+        "Operation 2 made no step there.\nOperation 2 did not end; it was shut out of 5 turns from step 5 to step 13.\n"
+    );
+    for (ran, lines) in [(half, 4), (never, 1)] {
+        assert_eq!((ran.status, ran.out.lines().count()), (0, lines), "{}", ran.out);
+    }
+    // one that ended, one without windows, and all steps
+    for words in ["--op 3 --windows satellite.win", "--op 2", "--windows satellite.win"] {
+        assert_eq!(op(words).said, "", "{words}");
+    }
+}
+
+#[test]
 fn every_step_within_windows_has_a_line() {
     let (mut shut, mut shut_drops, mut dropped) = (0, 0, 0);
     for seed in 0..800 {
