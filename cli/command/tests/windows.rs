@@ -34,6 +34,18 @@ fn what_is_printed_makes_the_very_block_and_is_printed_again() {
     }
 }
 
+#[test]
+fn a_line_whose_window_never_opens_says_so() {
+    let shut = ["0 never 06:00 to 07:00", "2 Mon 06:00 to 06:00", "5 daily 24:00 to 00:00", "6 never 00:00 to 24:00"];
+    let text = |mark: &str| {
+        let lines = shut.map(|line| format!("process {line}{mark}\n")).concat();
+        format!("start 2000-01-01 00:00:00  # a Saturday\n\n{lines}process 7 Mon 24:00 to 00:01\n# shut: processes 1, 3 and 4\n")
+    };
+    let windows = parse::windows(&text("")).unwrap();
+    assert_eq!(print::windows(&windows), text("  # shut"));
+    assert_eq!(parse::windows(&text("  # shut")), Ok(windows));
+}
+
 const START: Start = Start { year: 2024, month: 2, day: 29, second: 86_390 };
 
 /// The entries of a text, behind a start.
