@@ -112,6 +112,7 @@ fn what_was_found_and_what_is_allowed() {
         ("window 2 Mon", "'window'", "a line that begins with start, process or others"),
         ("Process 2 always", "'Process'", "a line that begins with start, process or others"),
         ("process 8 always", "'8'", "a process, 0 to 7"),
+        ("process -0 always", "'-0'", "a process, 0 to 7"),
         ("process 2", END, days),
         ("process 2 06:00 to 07:00", "'06:00'", days),
         ("process 2 Monday 06:00 to 07:00", "'Monday'", days),
