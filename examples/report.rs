@@ -1,5 +1,5 @@
 //! Replays the job file on standard input through the library and prints the report, or the refusal. An argument names the file of a window
-//! block.
+//! block. Exit status: 0 a report; 1 a refusal; 2 something could not be read or written.
 
 use std::io::{self, Read, Write};
 use std::process::ExitCode;
@@ -44,7 +44,8 @@ fn replay(file: &[u8], windows: &[u8]) -> Result<Vec<u8>, u32> {
     if number == 0 { Ok(report) } else { Err(number) }
 }
 
-fn main() -> io::Result<ExitCode> {
+/// The report, or the refusal, printed.
+fn printed() -> io::Result<ExitCode> {
     let mut file = vec![];
     io::stdin().read_to_end(&mut file)?;
     let windows = env::args_os().nth(1).map_or(Ok(vec![]), fs::read)?;
@@ -52,4 +53,11 @@ fn main() -> io::Result<ExitCode> {
         Ok(report) => io::stdout().write_all(&report).map(|()| ExitCode::SUCCESS),
         Err(number) => writeln!(io::stdout(), "refused {number}").map(|()| ExitCode::FAILURE),
     }
+}
+
+fn main() -> ExitCode {
+    printed().unwrap_or_else(|why| {
+        eprintln!("{why}");
+        ExitCode::from(2)
+    })
 }

@@ -1,16 +1,23 @@
 /* Replays the job file on standard input through the C header, within the windows of the block in the file that an argument names, and checks
  * the read and the write on the way. */
 #include <stdio.h>
+#include <stdlib.h>
 #include <string.h>
 
 #include "bench.h"
 
 static uint8_t file[BENCH_FILE + 1], windows[BENCH_WINDOWS + 1], work[BENCH_WORK], report[BENCH_REPORT], out[BENCH_FILE];
 
+/* the block's length, 0 of none; a file that cannot be opened or read ends the program */
 static size_t load(const char *name) {
-    FILE *from = name ? fopen(name, "rb") : NULL;
+    if (name == NULL) return 0;
+    FILE *from = fopen(name, "rb");
     size_t n = from ? fread(windows, 1, sizeof windows, from) : 0;
-    if (from) fclose(from);
+    if (from == NULL || ferror(from)) {
+        perror(name);
+        exit(2);
+    }
+    fclose(from);
     return n;
 }
 

@@ -95,6 +95,13 @@ pub fn replayed(file: &[u8], block: &[u8]) -> Result<(Turns, Report), Refusal> {
 
 /// Says that a job file or a window block is refused, where a command needed accepted ones.
 pub fn refused(path: &Path, windows: Option<&Path>, refusal: Refusal) {
-    let path = windows.filter(|_| refusal.is_of_windows()).unwrap_or(path);
-    say(&format!("{}: {refusal}. `bench why` says more.", name(path)));
+    match windows {
+        Some(block) if refusal.is_of_windows() => refused_block(block, refusal),
+        _ => say(&format!("{}: {refusal}. `bench why` says more.", name(path))),
+    }
+}
+
+/// The same of a window block alone.
+pub fn refused_block(path: &Path, refusal: Refusal) {
+    say(&format!("{}: {refusal}. `bench why --windows` says more.", name(path)));
 }

@@ -101,11 +101,13 @@ impl<'a> Words<'a> {
         read(word).ok_or_else(|| Wrong::new(quoted(word), allowed))
     }
 
+    /// A number in decimal digits, with a sign only where it may be negative.
     pub fn number(&mut self, what: &str, range: RangeInclusive<i64>) -> Result<i64, Wrong> {
         let (least, most) = (signed(*range.start()), signed(*range.end()));
         let allowed = if least == most { format!("{what}, {least}") } else { format!("{what}, {least} to {most}") };
         self.read(&allowed, |word| {
-            let plain = word.strip_prefix('-').unwrap_or(word).bytes().all(|byte| byte.is_ascii_digit());
+            let digits = word.strip_prefix('-').filter(|_| *range.start() < 0).unwrap_or(word);
+            let plain = digits.bytes().all(|byte| byte.is_ascii_digit());
             word.parse().ok().filter(|number| plain && range.contains(number))
         })
     }

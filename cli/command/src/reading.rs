@@ -3,7 +3,7 @@
 
 use crate::status::{Failure, Status};
 use crate::turns::Turns;
-use crate::words::{counted, list};
+use crate::words::{counted, list, step, steps};
 use crate::{input, output};
 use pigwazet::Kind;
 use pigwazet::report::{Action, Ending, Operation, Run};
@@ -59,7 +59,7 @@ pub fn fate(turns: &Turns, run: &Run, item: u16) -> Option<Vec<String>> {
     }
     if let Some(line) = run.taken(item) {
         let takers = takers(run, item);
-        lines.push(format!("The record has it going out at step {}, to {}.", line.at, all_told(turns, &takers)));
+        lines.push(format!("The record has it going out at {}, to {}.", step(line.at), all_told(turns, &takers)));
         lines.push(how_often(turns, &takers));
     }
     Some(lines)
@@ -72,7 +72,7 @@ fn coming(run: &Run, put: &Operation) -> String {
     match run.put(put.number) {
         Some(line) => {
             let before = if dropped { ", before its put was dropped" } else { "" };
-            format!("The record has it coming into the {object} at step {}{before}.", line.at)
+            format!("The record has it coming into the {object} at {}{before}.", step(line.at))
         }
         None if dropped => format!("It is not in the record: its put was dropped before it came into the {object}."),
         None => format!("It is not in the record: it never came into the {object}."),
@@ -92,10 +92,9 @@ fn operation_told(turns: &Turns, operation: &Operation) -> String {
     let who = format!("operation {} of process {}", operation.number, operation.process);
     let shut = turns.shut_out(operation).map_or(String::new(), |turns| format!("; {turns}"));
     match (operation.first, operation.last, turns.dropped_at(operation)) {
-        (Some(first), Some(last), _) if first == last => format!("{who} (step {first})"),
-        (Some(first), Some(last), _) => format!("{who} (steps {first} to {last})"),
-        (Some(first), None, Some(drop)) => format!("{who} (begun at step {first}, dropped at step {drop})"),
-        (Some(first), None, None) => format!("{who} (open since step {first}{shut})"),
+        (Some(first), Some(last), _) => format!("{who} ({})", steps(first, last)),
+        (Some(first), None, Some(drop)) => format!("{who} (begun at {}, dropped at {})", step(first), step(drop)),
+        (Some(first), None, None) => format!("{who} (open since {}{shut})", step(first)),
         _ => format!("{who} (not begun{shut})"),
     }
 }
@@ -131,8 +130,8 @@ fn without(takers: usize, open: usize, dropped: usize) -> &'static str {
 fn overlap(turns: &Turns, takers: &[&Operation]) -> String {
     let from = takers.iter().filter_map(|taker| taker.first).max().unwrap_or_default();
     match takers.iter().filter_map(|taker| taker.last.or(turns.dropped_at(taker))).min() {
-        Some(to) => format!("from step {from} to step {to}"),
-        None => format!("from step {from} on"),
+        Some(to) => format!("from {} to {}", step(from), step(to)),
+        None => format!("from {} on", step(from)),
     }
 }
 

@@ -25,11 +25,22 @@ pub fn run(arguments: &ReplayArguments) -> Result<Status, Failure> {
     let (list, windows) = (arguments.files_from.as_deref(), arguments.within.windows.as_deref());
     input::apart(arguments.files.iter().map(PathBuf::as_path).chain(list).chain(windows))?;
     let inputs = inputs::all(&arguments.files, list)?;
-    let block = input::block(windows)?;
     let out = arguments.out.as_deref();
+    let block = match input::block(windows) {
+        Err(Failure(why)) if out.is_some() => return unread(&inputs, why),
+        block => block?,
+    };
     match (out, &arguments.files[..], list) {
         (None, [file], None) if !file.is_dir() => single(&inputs[0], &block, |refusal| input::refused(file, windows, refusal)),
-        _ => several(&inputs, &block, out),
+        _ => {
+            let tally = several(&inputs, &block, out)?;
+            // the lines of the files do not say whose number 13 is
+            if let Some((windows, refusal)) = windows.zip(tally.of_windows()) {
+                input::refused_block(windows, refusal);
+            }
+            say(&tally);
+            Ok(tally.status())
+        }
     }
 }
 
@@ -46,7 +57,8 @@ fn single(input: &Input, block: &[u8], told: impl FnOnce(Refusal)) -> Result<Sta
     }
 }
 
-fn several(inputs: &[Input], block: &[u8], out: Option<&Path>) -> Result<Status, Failure> {
+/// Many jobs, and what came of all.
+fn several(inputs: &[Input], block: &[u8], out: Option<&Path>) -> Result<Tally, Failure> {
     out.map_or(Ok(()), |folder| folders(folder, inputs))?;
     // the lines of files that went well are for programs
     let attended = io::stdout().is_terminal();
@@ -74,6 +86,16 @@ fn several(inputs: &[Input], block: &[u8], out: Option<&Path>) -> Result<Status,
         })?;
     }
     bar.finish_and_clear();
+    Ok(tally)
+}
+
+/// Nothing is replayed, since the block could not be read: each file has its line all the same.
+fn unread(inputs: &[Input], why: String) -> Result<Status, Failure> {
+    say(&why);
+    let failed = Answer::Failed(why);
+    let mut tally = Tally::default();
+    inputs.iter().for_each(|_| tally.add(&failed));
+    output::print(inputs.iter().map(|input| failed.line(&input.name)).collect::<String>())?;
     say(&tally);
     Ok(tally.status())
 }

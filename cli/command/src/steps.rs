@@ -40,6 +40,11 @@ pub fn run(path: &Path, windows: Option<&Path>, Asked { op, from, to }: Asked) -
     if text.lines().count() == 1 {
         say(&op.map_or("The job has no steps.".to_string(), |op| format!("Operation {op} made no step there.")));
     }
+    let run = proved.run();
+    let asked = op.and_then(|op| run.operation(op));
+    if let Some((op, shut)) = asked.and_then(|own| Some((own.number, turns.shut_out(own)?))) {
+        say(&format!("Operation {op} did not end; it was {shut}."));
+    }
     Ok(Status::Fine)
 }
 

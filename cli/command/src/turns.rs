@@ -1,9 +1,10 @@
 //! The turns of a run: whose each step was, and which of them fell outside the window of their process.
 
 use crate::windows::words::{moment, window};
-use crate::words::{counted, grouped};
+use crate::words::{counted, list, step, steps};
 use pigwazet::report::{Ending, Operation};
 use pigwazet::{Hours, Job, Refusal, Turn, Windows};
+use std::ops::RangeInclusive;
 
 pub struct Turns {
     pub job: Job,
@@ -50,10 +51,14 @@ impl Turns {
         if !matches!(operation.ending, Ending::Open | Ending::Waiting) {
             return None;
         }
-        let behind = operation.first.unwrap_or_default();
-        let own = |&(step, turn): &(u16, Turn)| turn.process() == operation.process && step > behind;
+        self.shut_behind(operation.process, operation.first.unwrap_or_default())
+    }
+
+    /// The turns out of which a process was shut behind a step, in words; nothing of none.
+    pub fn shut_behind(&self, process: u8, behind: u16) -> Option<String> {
+        let own = |&(step, turn): &(u16, Turn)| turn.process() == process && step > behind;
         let shut: Vec<u16> = self.shut().filter(own).map(|(step, _)| step).collect();
-        turns_told(&shut).map(|turns| format!("shut out of {turns}"))
+        turns_told(&shut, self.hours.shut(process)).map(|turns| format!("shut out of {turns}"))
     }
 
     /// Why a step is shut to a process, in words: when it fell, and the window.
@@ -69,12 +74,18 @@ impl Turns {
     }
 }
 
-/// `1 turn, step 11`; `3 turns from step 11 to step 15`; nothing of none.
-pub fn turns_told(steps: &[u16]) -> Option<String> {
-    let step = |step: u16| format!("step {}", grouped(usize::from(step)));
-    match steps {
+/// `1 turn, step 11`; `3 turns from step 11 to step 15`; where they lie in several spans, `4 turns in step 2 and steps 11 to 15`.
+fn turns_told(turns: &[u16], spans: &[RangeInclusive<u16>]) -> Option<String> {
+    let together = |one: &u16, next: &u16| spans.iter().any(|span| span.contains(one) && span.contains(next));
+    let parts: Vec<&[u16]> = turns.chunk_by(together).collect();
+    let count = counted(turns.len(), "turn", "turns");
+    match parts[..] {
         [] => None,
-        [one] => Some(format!("1 turn, {}", step(*one))),
-        [first, .., last] => Some(format!("{} from {} to {}", counted(steps.len(), "turn", "turns"), step(*first), step(*last))),
+        [&[one]] => Some(format!("{count}, {}", step(one))),
+        [&[first, .., last]] => Some(format!("{count} from {} to {}", step(first), step(last))),
+        _ => {
+            let parts: Vec<String> = parts.iter().map(|part| steps(part[0], part[part.len() - 1])).collect();
+            Some(format!("{count} in {}", list(&parts)))
+        }
     }
 }

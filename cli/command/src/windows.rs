@@ -20,9 +20,10 @@ pub fn run(text: &Path, out: Option<&Path>) -> Result<Status, Failure> {
     let source = input::text(text, "a window block, it is made already: `bench windows --text` prints it")?;
     let windows = parse::windows(&source).map_err(|faults| lines::told(&name, &source, &faults))?;
     let block = pigwazet::write_windows(&windows).map_err(|refusal| Failure(format!("{name}: {refusal}")))?;
-    if let Some(made) = output::made((text, out), ["windows", "win"], &block, <[u8]>::is_empty, REMEDY)? {
-        say(&format!("{}: {}", shown(&made), told(&windows)));
-    }
+    let made = output::made((text, out), ["windows", "win"], &block, <[u8]>::is_empty, REMEDY)?;
+    // who forgot a line wants to hear it, wherever the block goes
+    let made = made.map_or("standard output".to_string(), |made| shown(&made));
+    say(&format!("{made}: {}", told(&windows)));
     Ok(Status::Fine)
 }
 
@@ -32,7 +33,7 @@ pub fn text(path: &Path) -> Result<Status, Failure> {
         Ok(Some(windows)) => output::print(print::windows(&windows)).map(|()| Status::Fine),
         Ok(None) => Err(Failure(format!("{} is empty: that is no window block, and shuts nothing.", input::name(path)))),
         Err(refusal) => {
-            say(&format!("{}: {refusal}. `bench why --windows` says more.", input::name(path)));
+            input::refused_block(path, refusal);
             Ok(Status::Refused)
         }
     }

@@ -18,6 +18,16 @@ pub fn counted(number: usize, one: &str, many: &str) -> String {
     format!("{} {}", grouped(number), if number == 1 { one } else { many })
 }
 
+/// `step 1,001`
+pub fn step(number: u16) -> String {
+    format!("step {}", grouped(usize::from(number)))
+}
+
+/// `steps 9 to 1,001`, or `step 9` from 9 to 9.
+pub fn steps(from: u16, to: u16) -> String {
+    if from == to { step(from) } else { format!("steps {} to {}", grouped(usize::from(from)), grouped(usize::from(to))) }
+}
+
 /// `2`, `2 and 3`, `2, 3 and 4`.
 pub fn list(parts: &[String]) -> String {
     joined(parts, "and")
@@ -49,6 +59,11 @@ mod tests {
     #[test]
     fn numbers_are_grouped_by_three() {
         assert_eq!([0, 999, 1_000, 16_384, 1_000_000].map(grouped), ["0", "999", "1,000", "16,384", "1,000,000"]);
+    }
+
+    #[test]
+    fn steps_in_words() {
+        assert_eq!([steps(9, 9), steps(9, 10), steps(999, 1_001)], ["step 9", "steps 9 to 10", "steps 999 to 1,001"]);
     }
 
     #[test]

@@ -87,7 +87,10 @@ fn why_a_whole_block_is_refused() {
     let found = "the sums 045d and 76cc; the block's bytes give 045d and 76cd";
     let bad = damage::spoiled(&good, Wrong::Sum(3, 1));
     why_told(&room, bad, "its sums, at bytes 508 to 511 of the block", found, "copy the block again, or make it anew.");
-    why_told(&room, room.read("listing.job"), whole, "a job file, which no window block is", "name the job file first");
+    for name in ["listing.job", "flood-hour.job"] {
+        room.sample(name);
+        why_told(&room, room.read(name), whole, "a job file, which no window block is", "name the job file first");
+    }
 }
 
 #[test]

@@ -192,6 +192,10 @@ fn pointing_at_what_was_shut_shows_the_window() {
         assert!(dom.contains(" · from Thursday 2024-02-29 23:59:50 on</p>"));
         assert!(dom.contains("title=\"its window: Fri 00:00 to 00:30\""));
     }
+    room.sample("flood-hour.job");
+    room.bench("picture flood-hour.job --windows satellite.win").is(0, "", "html");
+    let dom = pointed(&room, &room.text("flood-hour.html"), ".shut[data-process=\"1\"]");
+    assert!(dom.contains(">process 1 shut: steps 11 to 16,384\n"));
 }
 
 /// A page in which the pointer was brought over an element.

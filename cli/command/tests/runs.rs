@@ -2,6 +2,7 @@
 
 mod shared;
 
+use bench_command::words::step;
 use bench_command::{input, reading, steps};
 use pigwazet::Kind;
 use pigwazet::report::Ending::Dropped;
@@ -129,8 +130,8 @@ fn expected(report: &Report, item: u16) -> Expected {
 /// Holds the sentences of a fate against what is expected.
 fn holds(text: &str, object: &str, dropped: bool, expected: &Expected, all_left: usize) {
     match expected.put {
-        Some(at) if dropped => assert!(text.contains(&format!(" at step {at}, before its put was dropped.\n")), "{text}"),
-        Some(at) => assert!(text.contains(&format!(" at step {at}.\n")), "{text}"),
+        Some(at) if dropped => assert!(text.contains(&format!(" at {}, before its put was dropped.\n", step(at))), "{text}"),
+        Some(at) => assert!(text.contains(&format!(" at {}.\n", step(at))), "{text}"),
         None if dropped => assert!(text.ends_with(&format!("its put was dropped before it came into the {object}.")), "{text}"),
         None => assert!(text.ends_with(&format!("it never came into the {object}.")), "{text}"),
     }
@@ -141,7 +142,7 @@ fn holds(text: &str, object: &str, dropped: bool, expected: &Expected, all_left:
     let takers = expected.taken.as_ref().map_or(&[][..], |(_, takers)| takers);
     assert_eq!(text.contains("A double: "), takers.len() > 1, "{text}");
     if let Some((at, takers)) = &expected.taken {
-        let begins = format!("The record has it going out at step {at}, to operation {} of ", takers[0]);
+        let begins = format!("The record has it going out at {}, to operation {} of ", step(*at), takers[0]);
         let line = text.lines().find(|line| line.starts_with(&begins)).unwrap();
         assert_eq!(line.matches("operation ").count(), takers.len(), "{text}");
         assert!(takers.iter().all(|taker| line.contains(&format!("operation {taker} of process "))), "{text}");

@@ -34,6 +34,18 @@ fn what_is_printed_makes_the_very_block_and_is_printed_again() {
     }
 }
 
+#[test]
+fn a_line_whose_window_never_opens_says_so() {
+    let shut = ["0 never 06:00 to 07:00", "2 Mon 06:00 to 06:00", "5 daily 24:00 to 00:00", "6 never 00:00 to 24:00"];
+    let text = |mark: &str| {
+        let lines = shut.map(|line| format!("process {line}{mark}\n")).concat();
+        format!("start 2000-01-01 00:00:00  # a Saturday\n\n{lines}process 7 Mon 24:00 to 00:01\n# shut: processes 1, 3 and 4\n")
+    };
+    let windows = parse::windows(&text("")).unwrap();
+    assert_eq!(print::windows(&windows), text("  # shut"));
+    assert_eq!(parse::windows(&text("  # shut")), Ok(windows));
+}
+
 const START: Start = Start { year: 2024, month: 2, day: 29, second: 86_390 };
 
 /// The entries of a text, behind a start.
@@ -100,6 +112,7 @@ fn what_was_found_and_what_is_allowed() {
         ("window 2 Mon", "'window'", "a line that begins with start, process or others"),
         ("Process 2 always", "'Process'", "a line that begins with start, process or others"),
         ("process 8 always", "'8'", "a process, 0 to 7"),
+        ("process -0 always", "'-0'", "a process, 0 to 7"),
         ("process 2", END, days),
         ("process 2 06:00 to 07:00", "'06:00'", days),
         ("process 2 Monday 06:00 to 07:00", "'Monday'", days),
@@ -120,6 +133,15 @@ fn what_was_found_and_what_is_allowed() {
         ("process 2 Mon 06:00 to 25:00", "'25:00'", closing),
         ("process 2 Mon 06:00 to 07:00 08:00 to 09:00", "'08:00'", comment),
         ("process 2 always Mon", "'Mon'", comment),
+        ("process 2 shut Mon", "'Mon'", comment),
+        ("process 2 never Mon 06:00 to 07:00", "'Mon'", opening),
+        ("process 2 daily Mon 06:00 to 07:00", "'Mon'", opening),
+        ("process 2 never daily 06:00 to 07:00", "'daily'", opening),
+        ("process 2 Mon never 06:00 to 07:00", "'never'", more),
+        ("process 2 Mon daily 06:00 to 07:00", "'daily'", more),
+        ("process 2 Mon always", "'always'", more),
+        ("process 2 Mon,daily 06:00 to 07:00", "'Mon,daily'", days),
+        ("process 2 never, 06:00 to 07:00", "'never,'", days),
         ("start 2024-02-29 00:00", "a second start", "one"),
     ] {
         told(line, found, allowed);
@@ -180,8 +202,11 @@ fn windows_are_made_beside_their_text_and_printed() {
     room.bench("windows again.windows")
         .fails("again.win is there already, is something else and stays as it is: name the file with --out to replace it.");
     assert_eq!(room.read("again.win"), room.read("satellite.win"));
-    let ran = room.bench_with("windows -", b"start 2024-02-29 23:59:50\n");
-    assert_eq!((ran.status, ran.said.as_str(), ran.out.len() >= 500), (0, "", true));
+    // standard output has the block alone
+    let block = String::from_utf8_lossy(&room.read("satellite.win")).into_owned();
+    for words in ["windows -", "windows - -o -", "windows satellite.windows -o -"] {
+        room.bench_with(words, text.as_bytes()).is(0, &block, &format!("standard output: {made}"));
+    }
     room.bench("windows satellite.win")
         .fails("satellite.win is no text. If it is a window block, it is made already: `bench windows --text` prints it.");
     room.bench("windows none").fails("none could not be read: ");
@@ -197,6 +222,7 @@ fn who_has_a_window_is_said() {
         ("", "no process has a window, so all are shut"),
         ("process 2 never 06:00 to 07:00", "no process has a window, so all are shut"),
         ("process 2 Mon 06:00 to 06:00", "no process has a window, so all are shut"),
+        ("process 2 daily 24:00 to 00:00", "no process has a window, so all are shut"),
         ("process 2 Mon 06:00 to 07:00", "process 2 has a window, 0, 1, 3, 4, 5, 6 and 7 are shut"),
         ("others always\nprocess 2 shut", "processes 0, 1, 3, 4, 5, 6 and 7 have a window, 2 is shut"),
     ] {

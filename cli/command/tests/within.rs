@@ -70,13 +70,33 @@ fn a_block_that_cannot_be_read_is_told_by_every_command() {
 }
 
 #[test]
+fn a_block_that_cannot_be_read_fails_every_file() {
+    let room = room("unread-many");
+    room.write("list", "satellite.job\nlisting.job\n");
+    let lines = "failed\tsatellite.job\nfailed\tlisting.job\n";
+    let said = "none.win could not be read: No such file or directory (os error 2)\n2 files: 0 replayed, 0 refused, 2 not read or not written\n";
+    for files in ["satellite.job listing.job", "--files-from list"] {
+        let ran = room.bench(&format!("replay {files} --windows none.win --out reports"));
+        ran.is(2, lines, said);
+        assert_eq!(ran.said, said);
+    }
+    room.bench("replay satellite.job --windows none.win --out reports").is(2, "failed\tsatellite.job\n", "1 file: 0 replayed");
+    assert!(!room.has("reports/satellite.txt"));
+    // reports that would be printed are not
+    room.bench("replay satellite.job listing.job --windows none.win").fails("none.win could not be read: ");
+}
+
+#[test]
 fn a_refused_block_is_told_by_every_command() {
     let room = room("refused-windows");
-    for words in ["reading --doubles", "steps", "picture"] {
+    for words in ["replay", "reading --doubles", "steps", "picture"] {
+        let out = |number: u32| if words == "replay" { format!("refused {number}\n") } else { String::new() };
         let ran = room.bench(&format!("{words} satellite.job --windows cut.win"));
-        ran.is(1, "", "cut.win: refused 13: the window block is neither empty nor 512 bytes long");
+        ran.is(1, &out(13), "cut.win: refused 13: the window block is neither empty nor 512 bytes long");
+        assert!(ran.said.ends_with(" `bench why --windows` says more.\n"), "{}", ran.said);
+        let ran = room.bench(&format!("{words} cut.win --windows cut.win"));
+        ran.is(1, &out(2), "cut.win: refused 2: ");
         assert!(ran.said.ends_with(" `bench why` says more.\n"), "{}", ran.said);
-        room.bench(&format!("{words} cut.win --windows cut.win")).is(1, "", "cut.win: refused 2: ");
     }
     assert!(!room.has("satellite.html"));
 }
@@ -101,6 +121,21 @@ fn many_files_within_one_block() {
     assert_eq!(room.text("reports/satellite.txt"), "refused 13\n");
     room.write("cards/a.job", room.read("satellite.job"));
     room.bench("replay cards --windows satellite.win").is(0, &format!("==> cards/a.job <==\n{WITHIN}"), "1 file: 1 replayed");
+}
+
+#[test]
+fn a_refused_block_is_told_once_for_many_files() {
+    let room = room("many-refused");
+    room.write("cards/a.job", room.read("satellite.job"));
+    room.write("cut.job", &room.read("satellite.job")[1..]);
+    let block = "cut.win: refused 13: the window block is neither empty";
+    for files in ["satellite.job listing.job", "cards", "satellite.job listing.job --out reports", "cards --out reports"] {
+        let said = room.bench(&format!("replay {files} --windows cut.win")).said;
+        assert_eq!((said.matches(block).count(), said.matches("`bench why --windows` says more.\n").count()), (1, 1), "{said}");
+    }
+    // of a block that no job was held to, nothing is said
+    let said = room.bench("replay cut.job cut.job --windows cut.win").said;
+    assert_eq!(said, "2 files: 0 replayed, 2 refused (2 with number 2)\n");
 }
 
 #[test]
@@ -152,10 +187,34 @@ fn steps_of_the_sample_in_words() {
     ran.is(0, steps, "");
     let only = room.bench("steps satellite.job --windows satellite.win --op 2").out;
     assert_eq!(only.lines().count(), 4);
+    for (name, lines) in [("none", ""), ("edge", "others daily 24:00 to 00:00\n")] {
+        room.write(&format!("{name}.windows"), format!("start 2024-02-29 23:59:50\n{lines}"));
+        room.bench(&format!("windows {name}.windows")).is(0, "", "no process has a window");
+        let out = room.bench(&format!("steps satellite.job --windows {name}.win")).out;
+        assert_eq!(out.matches("  /    shut: its process has no window").count(), 16, "{out}");
+    }
+}
+
+#[test]
+fn steps_of_an_operation_that_was_shut_out() {
+    let room = room("steps-shut-out");
     room.write("none.windows", "start 2024-02-29 23:59:50\n");
     room.bench("windows none.windows").is(0, "", "none.win: ");
-    let out = room.bench("steps satellite.job --windows none.win").out;
-    assert_eq!(out.matches("  /    shut: its process has no window").count(), 16, "{out}");
+    let op = |words: &str| room.bench(&format!("steps satellite.job {words}"));
+    let half = op("--op 2 --windows satellite.win");
+    assert_eq!(half.said, "Operation 2 did not end; it was shut out of 2 turns from step 11 to step 13.\n");
+    let never = op("--op 2 --windows none.win");
+    assert_eq!(
+        never.said,
+        "Operation 2 made no step there.\nOperation 2 did not end; it was shut out of 5 turns from step 5 to step 13.\n"
+    );
+    for (ran, lines) in [(half, 4), (never, 1)] {
+        assert_eq!((ran.status, ran.out.lines().count()), (0, lines), "{}", ran.out);
+    }
+    // one that ended, one without windows, and all steps
+    for words in ["--op 3 --windows satellite.win", "--op 2", "--windows satellite.win"] {
+        assert_eq!(op(words).said, "", "{words}");
+    }
 }
 
 #[test]
@@ -240,6 +299,42 @@ It was taken once: no double.
     room.bench("windows hub.windows -o hub.win").is(0, "", "hub.win: ");
     let told = "to be put by operation 1 of process 0 (not begun; shut out of 4 turns from step 1 to step 4).\n";
     room.bench("reading satellite.job 1 --windows hub.win").tells(0, told);
+}
+
+#[test]
+fn numbers_are_grouped_in_all_sentences() {
+    let room = room("grouped");
+    // step 1,001 is the last of Thursday
+    room.write("long.txt", "queue\nprocesses 2\nput 0 500\norder 1 x 1000 0 x 2001\n");
+    room.write("long.windows", "start 2024-02-29 23:43:19\nothers always\nprocess 0 Thu 00:00 to 24:00\n");
+    room.bench("make long.txt").is(0, "", "queue, 2 processes, 1 operation, 3,001 steps\n");
+    room.bench("windows long.windows").is(0, "", "long.win: ");
+    let told = "(open since step 1,001; shut out of 2,000 turns from step 1,002 to step 3,001).\n";
+    room.bench("reading long.job 1 --windows long.win").tells(0, told);
+    room.bench("why long.job --windows long.win").tells(0, "2,000 turns from step 1,002 to step 3,001, of 2,001 in all.");
+    room.bench("reading long.job 1")
+        .tells(0, "(steps 1,001 to 1,004).\nThe record has it coming into the queue at step 1,003.\n");
+}
+
+#[test]
+fn turns_before_and_behind_an_open_time_are_told_apart() {
+    let room = room("two-spans");
+    // open from step 121 to step 180; the put's first turns are shut, one is open, the others are shut again
+    room.write("hour.windows", "start 2024-02-29 12:00:00\nothers always\nprocess 0 Thu 12:02 to 12:03\n");
+    room.bench("windows hour.windows").is(0, "", "hour.win: ");
+    for (order, shut) in [
+        ("0 x 3 1 x 126 0 1 x 1000 0 x 2", "5 turns in steps 1 to 3 and steps 1,131 to 1,132"),
+        ("1 x 9 0 1 x 119 0 1 x 1000 0 x 2", "3 turns in step 10 and steps 1,131 to 1,132"),
+        ("1 x 129 0 1 x 1000 0 x 2", "2 turns from step 1,131 to step 1,132"),
+    ] {
+        room.write("hour.txt", format!("queue\nprocesses 2\nput 0 500\norder {order}\n"));
+        room.bench("make hour.txt -o hour.job").is(0, "", "hour.job: ");
+        let why = format!("\nProcess 0 (Thu 12:02 to 12:03) was shut out of {shut}, of ");
+        room.bench("why hour.job --windows hour.win").tells(0, &why);
+        // of an operation those behind its first step are told
+        let told = "(open since step 130; shut out of 2 turns from step 1,131 to step 1,132)";
+        room.bench("reading hour.job 1 --windows hour.win").tells(0, told);
+    }
 }
 
 #[test]

@@ -7,7 +7,7 @@ use std::fmt;
 const WINDOWS: u32 = 13;
 
 /// The first condition met, in the order of document 01, by its number.
-#[derive(Clone, Copy, PartialEq, Eq, Hash, Debug)]
+#[derive(Clone, Copy, PartialEq, Eq, PartialOrd, Ord, Hash, Debug)]
 pub struct Refusal(u32);
 
 impl Refusal {

@@ -28,9 +28,10 @@ impl Window {
     pub const SHUT: Window = Window { days: 0, opening: 0, closing: 0 };
     pub const ALWAYS: Window = Window { days: 0x7f, opening: 0, closing: MINUTES };
 
-    /// Whether it never opens.
+    /// Whether it never opens. From 1,440 to 0 it closes in the second in which it opens.
     pub fn is_shut(self) -> bool {
-        self.days == 0 || self.opening == self.closing
+        let (opening, closing) = (self.opening, self.closing);
+        self.days == 0 || opening == closing || (opening, closing) == (MINUTES, 0)
     }
 
     fn entry(self) -> [u8; ENTRY] {

@@ -1,6 +1,6 @@
 //! Window blocks through the library: every field at its limits and past them, and what is shut, by hand.
 
-use pigwazet::limits::{BLOCK, DAY, MINUTES, YEARS};
+use pigwazet::limits::{BLOCK, DAY, MINUTE, MINUTES, YEARS};
 use pigwazet::{Action, Hours, Job, Kind, Operation, Start, Window, Windows};
 
 /// A Thursday, ten seconds before midnight; nobody may work.
@@ -101,6 +101,7 @@ fn what_is_shut_around_midnight() {
         (with(wednesday, 1, 0), vec![1..=200]),
         (with(wednesday, MINUTES, 1_439), vec![1..=200]),
         (with(0x7f, 1_439, 1_439), vec![1..=200]),
+        (with(0x7f, MINUTES, 0), vec![1..=200]),
         (with(0, 0, MINUTES), vec![1..=200]),
     ] {
         let hours = Hours::of(&pigwazet::write_windows(&windows).unwrap(), 200).unwrap();
@@ -131,6 +132,16 @@ fn weekdays_of_some_dates() {
 
 #[test]
 fn windows_that_never_open() {
-    assert!(Window::SHUT.is_shut() && with(0, 1, 2).entries[3].is_shut() && with(1, 2, 2).entries[3].is_shut());
-    assert!(!Window::ALWAYS.is_shut() && !with(1, 2, 1).entries[3].is_shut());
+    let is_shut = |days, opening, closing| Window { days, opening, closing }.is_shut();
+    assert!(Window::SHUT.is_shut() && is_shut(0, 1, 2) && is_shut(1, 2, 2) && is_shut(0x7f, MINUTES, 0));
+    assert!(!Window::ALWAYS.is_shut() && !is_shut(1, 2, 1) && !is_shut(1, MINUTES, 1) && !is_shut(1, 1_439, 0));
+    // a daily window that opens is open in its opening second
+    let edges = [0, 1, 720, MINUTES - 1, MINUTES];
+    for (opening, closing) in edges.into_iter().flat_map(|opening| edges.map(|closing| (opening, closing))) {
+        let Windows { start, entries } = with(0x7f, opening, closing);
+        let second = u32::from(opening % MINUTES) * MINUTE;
+        let block = pigwazet::write_windows(&Windows { start: Start { second, ..start }, entries }).unwrap();
+        let is_open = Hours::of(&block, 1).unwrap().is_open(3, 1);
+        assert_eq!(is_shut(0x7f, opening, closing), !is_open, "{opening} to {closing}");
+    }
 }

@@ -94,7 +94,7 @@ impl Answer {
 pub struct Tally {
     replayed: usize,
     /// By number.
-    refused: BTreeMap<u32, usize>,
+    refused: BTreeMap<Refusal, usize>,
     failed: usize,
 }
 
@@ -102,13 +102,18 @@ impl Tally {
     pub fn add(&mut self, answer: &Answer) {
         match answer {
             Answer::Replayed(_) => self.replayed += 1,
-            Answer::Refused(refusal) => *self.refused.entry(refusal.number()).or_default() += 1,
+            Answer::Refused(refusal) => *self.refused.entry(*refusal).or_default() += 1,
             Answer::Failed(_) => self.failed += 1,
         }
     }
 
     pub fn files(&self) -> usize {
         self.replayed + self.refused.values().sum::<usize>() + self.failed
+    }
+
+    /// The refusal of the window block, where a job met it.
+    pub fn of_windows(&self) -> Option<Refusal> {
+        self.refused.keys().copied().find(|refusal| refusal.is_of_windows())
     }
 
     pub fn status(&self) -> Status {
@@ -132,8 +137,11 @@ impl fmt::Display for Tally {
             grouped(refused)
         )?;
         if refused > 0 {
-            let numbers: Vec<String> =
-                self.refused.iter().map(|(number, count)| format!("{} with number {number}", grouped(*count))).collect();
+            let numbers: Vec<String> = self
+                .refused
+                .iter()
+                .map(|(refusal, count)| format!("{} with number {}", grouped(*count), refusal.number()))
+                .collect();
             write!(f, " ({})", list(&numbers))?;
         }
         if self.failed > 0 {

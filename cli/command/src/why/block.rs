@@ -1,5 +1,5 @@
 //! Where a window block is wrong, what stands there, and what to do. All of it is number 13; of several faults the first in this order is told:
-//! length, sums, number, the fields, the zeros behind them, and last the date, which only the library can tell to be none.
+//! what is no block at all, length, sums, number, the fields, the zeros behind them, and last the date, which only the library can tell to be none.
 
 use super::decided;
 use super::place::{bytes, sums_told, word};
@@ -32,37 +32,44 @@ pub fn told(block: &[u8]) -> String {
 
 /// What is wrong with a block that is refused.
 pub fn wrong(block: &[u8]) -> Wrong {
-    let Ok(whole) = <&[u8; BLOCK]>::try_from(block) else { return not_a_block(block) };
-    let fields = || front(whole).or_else(|| (0..PROCESSES).find_map(|process| entry(whole, process)));
-    of_whole(whole).or_else(fields).or_else(|| padding(whole)).unwrap_or_else(|| date(whole))
+    let length = || whole(block, bytes(block), format!("a window block has {BLOCK} bytes: copy it again, or make it anew"));
+    something_else(block).unwrap_or_else(|| block.try_into().map_or_else(|_| length(), within))
 }
 
 fn of_bytes(at: Range<usize>, name: impl Into<String>, found: impl Into<String>, remedy: impl Into<String>) -> Wrong {
     Wrong { at, name: name.into(), found: found.into(), remedy: remedy.into() }
 }
 
-const WHOLE: &str = "the block as a whole";
-
-fn not_a_block(block: &[u8]) -> Wrong {
-    if looks_like_text(block) {
-        let remedy = "if it is windows written as text, make their block with `bench windows`";
-        return of_bytes(0..block.len(), WHOLE, format!("{} of plain text, which no window block is", bytes(block)), remedy);
-    }
-    of_bytes(0..block.len(), WHOLE, bytes(block), format!("a window block has {BLOCK} bytes: copy it again, or make it anew"))
+fn whole(block: &[u8], found: impl Into<String>, remedy: impl Into<String>) -> Wrong {
+    of_bytes(0..block.len(), "the block as a whole", found, remedy)
 }
 
-/// Sums and number, of the block of a job file too.
-fn of_whole(block: &[u8; BLOCK]) -> Option<Wrong> {
-    let number = word(block, 0);
+/// A text or a job file, whatever its length.
+fn something_else(block: &[u8]) -> Option<Wrong> {
     if looks_like_text(block) {
-        Some(not_a_block(block))
-    } else if sums(block) != held(block) {
+        let remedy = "if it is windows written as text, make their block with `bench windows`";
+        Some(whole(block, format!("{} of plain text, which no window block is", bytes(block)), remedy))
+    } else if pigwazet::read(block).is_ok() {
+        Some(whole(block, "a job file, which no window block is", "name the job file first, the block behind --windows"))
+    } else {
+        None
+    }
+}
+
+/// What is wrong within a block.
+fn within(block: &[u8; BLOCK]) -> Wrong {
+    let entries = || (0..PROCESSES).find_map(|process| entry(block, process));
+    let found = sealed(block).or_else(|| front(block)).or_else(entries).or_else(|| padding(block));
+    found.unwrap_or_else(|| date(block))
+}
+
+/// Sums and number.
+fn sealed(block: &[u8; BLOCK]) -> Option<Wrong> {
+    let number = word(block, 0);
+    if sums(block) != held(block) {
         Some(of_bytes(SUMMED..BLOCK, "its sums", sums_told(block), "copy the block again, or make it anew"))
     } else if number != 0 {
         Some(of_bytes(0..2, "its number", grouped(usize::from(number)), "a window block has the number 0"))
-    } else if pigwazet::read(block).is_ok() {
-        let remedy = "name the job file first, the block behind --windows";
-        Some(of_bytes(0..BLOCK, WHOLE, "a job file, which no window block is", remedy))
     } else {
         None
     }

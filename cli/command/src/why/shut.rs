@@ -2,9 +2,9 @@
 
 use crate::input;
 use crate::status::Failure;
-use crate::turns::{Turns, turns_told};
+use crate::turns::Turns;
 use crate::windows::words::window;
-use crate::words::list;
+use crate::words::{grouped, list};
 use pigwazet::report::{Ending, Run};
 
 /// A line for each process that was shut out of a turn.
@@ -16,7 +16,7 @@ pub fn told(file: &[u8], block: &[u8]) -> Result<String, Failure> {
 }
 
 fn of_process(turns: &Turns, run: &Run, process: u8) -> Option<String> {
-    let shut: Vec<u16> = turns.shut().filter(|(_, turn)| turn.process() == process).map(|(step, _)| step).collect();
+    let shut = turns.shut_behind(process, 0)?;
     let all = turns.all().filter(|(_, turn)| turn.process() == process).count();
     let own = window(turns.windows?.entries[usize::from(process)]);
     let those = |ending: Ending| -> Vec<String> {
@@ -25,7 +25,7 @@ fn of_process(turns: &Turns, run: &Run, process: u8) -> Option<String> {
     };
     let [open, waiting] =
         [(Ending::Open, "open"), (Ending::Waiting, "not begun")].map(|(ending, word)| left(&those(ending), word));
-    Some(format!("Process {process} ({own}) was shut out of {}, of {all} in all.{open}{waiting}\n", turns_told(&shut)?))
+    Some(format!("Process {process} ({own}) was {shut}, of {} in all.{open}{waiting}\n", grouped(all)))
 }
 
 /// Which operations were left so.

@@ -85,10 +85,7 @@ fn window(words: &mut Words) -> Result<Window, Wrong> {
     if words.next_is(SHUT) {
         return Ok(Window::SHUT);
     }
-    let mut days = words.read(WHEN, days)?;
-    while let Some(word) = words.next_if(|word| !word.starts_with(|char: char| char.is_ascii_digit())) {
-        days |= self::days(word).ok_or_else(|| Wrong::new(quoted(word), "more days, or the opening, 00:00 to 24:00"))?;
-    }
+    let days = days(words)?;
     let opening = minute(words, "the opening, 00:00 to 24:00")?;
     words.read("'to' and the closing", |word| (word == "to").then_some(()))?;
     Ok(Window { days, opening, closing: minute(words, "the closing, 00:00 to 24:00")? })
@@ -102,13 +99,24 @@ fn minute(words: &mut Words, allowed: &str) -> Result<u16, Wrong> {
     })
 }
 
-/// The days of a word, as bits. A comma may stand at its end, where a space follows.
-fn days(word: &str) -> Option<u8> {
-    match word {
-        DAILY => Some(Window::ALWAYS.days),
-        NEVER => Some(0),
-        _ => word.strip_suffix(',').unwrap_or(word).split(',').map(range).try_fold(0, |days, range| Some(days | range?)),
+/// Days as bits: a word for all or none, which stands alone, or words up to the opening, which begins with a digit.
+fn days(words: &mut Words) -> Result<u8, Wrong> {
+    if words.next_is(DAILY) {
+        return Ok(Window::ALWAYS.days);
     }
+    if words.next_is(NEVER) {
+        return Ok(0);
+    }
+    let mut days = words.read(WHEN, ranges)?;
+    while let Some(word) = words.next_if(|word| !word.starts_with(|char: char| char.is_ascii_digit())) {
+        days |= ranges(word).ok_or_else(|| Wrong::new(quoted(word), "more days, or the opening, 00:00 to 24:00"))?;
+    }
+    Ok(days)
+}
+
+/// The days of a word. A comma may stand at its end, where a space follows.
+fn ranges(word: &str) -> Option<u8> {
+    word.strip_suffix(',').unwrap_or(word).split(',').map(range).try_fold(0, |days, range| Some(days | range?))
 }
 
 /// One day, or those from one to another, over a Sunday too.

@@ -10,9 +10,11 @@ pub fn windows(windows: &Windows) -> String {
     text.push('\n');
     let mut shut = vec![];
     for (process, own) in windows.entries.iter().enumerate() {
+        let line = format!("process {process} {}", window(*own));
         match own {
             &Window::SHUT => shut.push(process.to_string()),
-            own => text += &format!("process {process} {}\n", window(*own)),
+            own if own.is_shut() => text += &commented(&line, "shut"),
+            _ => text += &format!("{line}\n"),
         }
     }
     match &shut[..] {

@@ -17,7 +17,7 @@ function linesUnder(target) {
   if (tied) return [index.takes.get(Number(tied.dataset.item)).line];
   if (!op) return shutUnder(target);
   const line = index.lines.get(op.number), effect = line ? [line.line] : [];
-  const drop = isDropped(op) ? ["dropped at step " + op.dropped] : [];
+  const drop = isDropped(op) ? ["dropped at step " + count(op.dropped)] : [];
   if (target.closest(".effect")) return [...effect, op.line, ...drop];
   if (target.closest(".cut")) return [...drop, op.line, ...effect];
   return [op.line, ...drop, ...effect];
@@ -27,7 +27,7 @@ function linesUnder(target) {
 function shutUnder(target) {
   const part = target.closest(".shut");
   if (!part) return [];
-  const { process, from, to } = part.dataset;
+  const { process } = part.dataset, [from, to] = [part.dataset.from, part.dataset.to].map((step) => count(Number(step)));
   return ["process " + process + " shut: " + (from === to ? "step " + from : "steps " + from + " to " + to), "its window: " + windowOf(process).window];
 }
 
