@@ -1,1 +1,9 @@
 -- Laws of what is kept, and the claims.
+pub mod Leading
+pub mod Front
+pub mod Shortened
+pub mod Unmet
+pub mod Looked
+-- pub mod Undamaged
+-- pub mod Proper
+-- pub mod Answers
