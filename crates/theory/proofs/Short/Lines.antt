@@ -48,9 +48,9 @@ module _ (j : Job) (k l : ℕ) (later : k ≤ l) where
           let at : link (note j) k o ≡ s = cc in
           let stays : link (note j) l o ≡ link (note j) k o = link-stays (note j) k o l later some in
           in-record o (w .operation) s (put o) (effect-of-put (j .object) (note j) (j .count) l o (λ z. some (sym stays ∙ z)) ∙ ap (λ (a : ℕ). stands a (put o)) (stays ∙ at))
-      go w (by-take z t h) = let e = w .its-effect in let z : _≡_ {A = ℕ} 0 1 = cc in absurd (omega arith)
-      go w (by-empty z t a h) = let e = w .its-effect in let z : _≡_ {A = ℕ} 0 1 = cc in absurd (omega arith)
-      go w (by-none z t a h) = let e = w .its-effect in let z : _≡_ {A = ℕ} 0 1 = cc in absurd (omega arith)
+      go w (by-take n t h) = let e = w .its-effect in let z : _≡_ {A = ℕ} 0 1 = cc in absurd (omega arith)
+      go w (by-empty n t a h) = let e = w .its-effect in let z : _≡_ {A = ℕ} 0 1 = cc in absurd (omega arith)
+      go w (by-none n t a h) = let e = w .its-effect in let z : _≡_ {A = ℕ} 0 1 = cc in absurd (omega arith)
 
   -- whoever answered empty makes no further round
   empty-settled : (o : ℕ) → IsOperation (j .count) o → answer (note j) k o ≡ Answer.empty → (answer (note j) l o ≡ Answer.empty) × (start (note j) l o ≡ start (note j) k o)
@@ -68,13 +68,13 @@ module _ (j : Job) (k l : ℕ) (later : k ≤ l) where
     where
       go : Member (course j) k s (empty o) o → Effected (j .object) (note j) (j .count) k o → List·Memᴰ (record { step = s; line = empty o }) (the-record j l)
       go w (by-put some h) = let e = w .its-effect in let z : _≡_ {A = ℕ} 0 1 = cc in absurd (omega arith)
-      go w (by-take z t h) = let e = w .its-effect in let z : _≡_ {A = ℕ} 0 1 = cc in absurd (omega arith)
-      go w (by-empty z t a h) =
+      go w (by-take n t h) = let e = w .its-effect in let z : _≡_ {A = ℕ} 0 1 = cc in absurd (omega arith)
+      go w (by-empty n t a h) =
           let e : stands (start (note j) k o) (empty o) ≡ stands s (empty o) = sym h ∙ w .its-effect in
           let at : start (note j) k o ≡ s = cc in
           let (still, settled) = empty-settled o (w .operation) a in
           in-record o (w .operation) s (empty o) (effect-of-empty (course j) l o (w .operation) still ∙ ap (λ (a : ℕ). stands a (empty o)) (settled ∙ at))
-      go w (by-none z t a h) = let e = w .its-effect in let z : _≡_ {A = ℕ} 0 1 = cc in absurd (omega arith)
+      go w (by-none n t a h) = let e = w .its-effect in let z : _≡_ {A = ℕ} 0 1 = cc in absurd (omega arith)
 
   -- where the line of an item's takers stands, if there is one
   abbrev line : ℕ → ℕ → ℕ
@@ -113,7 +113,7 @@ module _ (j : Job) (k l : ℕ) (later : k ≤ l) where
 
       go : Placed (j .object) (note j) (j .count) k k (record { step = s; line = takes item few }) → Effected (j .object) (note j) (j .count) k q → TakesStand (j .object) (the-record j l) s item few
       go p (by-put some h) = let e = p .of-maker in let z : _≡_ {A = ℕ} 0 1 = cc in absurd (omega arith)
-      go p (by-take z t h) =
+      go p (by-take n t h) =
           let e : stands (line k (taken (note j) k q)) (takes (taken (note j) k q) (takers (note j) (j .count) k (taken (note j) k q))) ≡ stands s (takes item few) = sym h ∙ p .of-maker in
           let at : line k (taken (note j) k q) ≡ s = cc in
           let of-item : taken (note j) k q ≡ item = cc in
@@ -121,5 +121,5 @@ module _ (j : Job) (k l : ℕ) (later : k ≤ l) where
           let op : IsOperation (j .count) q = maker-of-effect (course j) k s q (takes item few) (p .from-one) (p .of-maker) in
           let found : line k (taken (note j) k q) ≢ 0 = (λ z. omega (arith, p .from-one, at)) in
           subst (λ x. x) (λ i. TakesStand (j .object) (the-record j l) (at i) (of-item i) (its-takers i)) (line-of-taken q op t found)
-      go p (by-empty z t a h) = let e = p .of-maker in let z : _≡_ {A = ℕ} 0 1 = cc in absurd (omega arith)
-      go p (by-none z t a h) = let e = p .of-maker in let z : _≡_ {A = ℕ} 0 1 = cc in absurd (omega arith)
+      go p (by-empty n t a h) = let e = p .of-maker in let z : _≡_ {A = ℕ} 0 1 = cc in absurd (omega arith)
+      go p (by-none n t a h) = let e = p .of-maker in let z : _≡_ {A = ℕ} 0 1 = cc in absurd (omega arith)
