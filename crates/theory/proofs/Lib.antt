@@ -19,3 +19,4 @@ pub mod Theorem
 pub mod Lost
 pub mod Nobody
 pub mod Cut
+pub mod Short

@@ -40,7 +40,7 @@ maker-of-line c (suc s) low m = go (c .step s)
     go (inl i) = absurd (not-quiet (subst MayLine (passes-event i) m))
     go (inr a) = subst (IsOperation (c .count)) (sym (a .1 .by)) (a .1 .operation)
 
-maker-of-effect : {kind : Kind} (c : Course kind) (k s o : ℕ) (line : Line) → 1 ≤ s → effect kind (c .log) (c .count) k o ≡ stands s line → IsOperation (c .count) (c .log s .by)
+pub maker-of-effect : {kind : Kind} (c : Course kind) (k s o : ℕ) (line : Line) → 1 ≤ s → effect kind (c .log) (c .count) k o ≡ stands s line → IsOperation (c .count) (c .log s .by)
 maker-of-effect {kind} c k s o line low e = maker-of-line c s low (effect-event kind (c .log) (c .count) k s o line low e)
 
 -- so a step that nobody makes has no line
