@@ -39,7 +39,7 @@ payloads-bytes file i (suc n) h =
     bytes-append _ _ (bytes-take payload-size _ (bytes-drop 2 _ (bytes-take block-size _ (bytes-drop (block-size * i) file h))))
     (payloads-bytes file (suc i) n h)
 
-joined-bytes : (file : List ℕ) → Bytes file → Bytes (joined file)
+pub joined-bytes : (file : List ℕ) → Bytes file → Bytes (joined file)
 unfolding joined
 joined-bytes file h = payloads-bytes file 0 (block-count file) h
 

@@ -111,11 +111,11 @@ module _ {l : Limits} (sound : Sound l) where
       }
 
   -- for every stream that the writer takes, its file is accepted
-  written-accepted : (s out : List ℕ) → write-number l s out ≡ 0 → file-refusal l (file-of s) ≡ 0
+  pub written-accepted : (s out : List ℕ) → write-number l s out ≡ 0 → file-refusal l (file-of s) ≡ 0
   written-accepted s out z = good-accepted l (file-of s) (written-file-good s (written-good l s out z .1))
 
   -- and holds that stream
-  written-stream : (s out : List ℕ) → write-number l s out ≡ 0 → stream-of (file-of s) ≡ s
+  pub written-stream : (s out : List ℕ) → write-number l s out ≡ 0 → stream-of (file-of s) ≡ s
   unfolding stream-of
   written-stream s out z =
       let size : length s ≡ stream-length s = written-good l s out z .1 .size in

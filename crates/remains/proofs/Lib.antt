@@ -4,6 +4,6 @@ pub mod Front
 pub mod Shortened
 pub mod Unmet
 pub mod Looked
--- pub mod Undamaged
--- pub mod Proper
--- pub mod Answers
+pub mod Undamaged
+pub mod Proper
+pub mod Answers

@@ -3,4 +3,4 @@ pub mod Kept
 pub mod Salvage
 pub mod Claims
 pub mod Line
--- pub mod Rows
+pub mod Rows
