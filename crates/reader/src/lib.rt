@@ -24,7 +24,7 @@ ghost use Rattle.job.specs.Calls.{read-number, read-length, read-work};
 ghost use Rattle.reader.specs.Loaded.{joined-refusal, Loaded};
 
 // The block at a position: its payload goes into the work memory behind the payloads before it, or nothing does.
-fn take_block(file: &[u8], i: usize, work: &mut [u8]) -> Checked
+pub fn take_block(file: &[u8], i: usize, work: &mut [u8]) -> Checked
     requires { ⌜ (i < 65536) × (block-size * i + block-size ≤ length (now file)) × (payload-size * i + payload-size ≤ length (now work)) ⌝ }
     ensures number { λ r. ⌜ number-of r ≡ block-refusal i (block-at (now (file .entry)) i) ⌝ }
     ensures payload { λ r. ⌜ now (work .exit) ≡ take (payload-size * i) (now (work .entry)) ++ over (bytes-of r (block-at (now (file .entry)) i)) (drop (payload-size * i) (now (work .entry))) ⌝ }

@@ -18,6 +18,7 @@ use Rattle.job.proofs.Conditions.{met-front}
 use Rattle.job.proofs.Table.{exact-room}
 use Rattle.remains.specs.Kept.{leading, intact-blocks, intact, kept-blocks, kept, entries-kept, shortened}
 use Rattle.remains.specs.Salvage.{cut-records, kept-conditions, salvage-refusal, kept-entries, named-entries}
+use Rattle.remains.specs.Looked.{looked}
 use Rattle.remains.proofs.Leading.{leading-le, leading-first, length-full, payloads-first}
 use Rattle.remains.proofs.Front.{Same-header, header-same, header-of-front, front-under, entries-front, named-front, shortened-front, conditions-front}
 use Rattle.remains.proofs.Unmet.{all-unmet, header-unmet, stream-small}
@@ -41,10 +42,6 @@ module _ (file : List ℕ) where
 
   kept-conditions-intact : (l : Limits) → kept-conditions l (kept file) ≡ kept-conditions l (intact file)
   kept-conditions-intact l = ap (kept-conditions l) kept-front ∙ conditions-front (intact file) wanted wanted-enough l
-
--- the payloads of the leading blocks among so many as a file may have
-unfoldable pub looked : Limits → List ℕ → List ℕ
-looked l file = payloads file 0 (leading file 0 (min (block-count file) (l .blocks)))
 
 module _ {l : Limits} (sound : Sound l) (file : List ℕ) where
   abbrev most : ℕ

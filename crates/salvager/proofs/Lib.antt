@@ -1,0 +1,1 @@
+-- Laws of the salvage's loop, of shortening in place, and of what is answered.

@@ -1,0 +1,2 @@
+-- What a stream's salvage gives, as the code has it.
+pub mod Saved
