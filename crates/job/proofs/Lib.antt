@@ -11,6 +11,7 @@ pub mod Padded
 pub mod Pieces
 pub mod Alike
 pub mod View
+pub mod Cleared
 pub mod Ready
 pub mod Field
 pub mod Written

@@ -39,6 +39,13 @@ Taken file m i r m′ =
     (number-of r ≡ block-refusal i (block-at file i))
     × (m′ ≡ take (payload-size * i) m ++ over (bytes-of r (block-at file i)) (drop (payload-size * i) m))
 
+-- a refused block leaves the memory as it was
+pub refused-keeps : (file m m′ : List ℕ) (i : ℕ) (r : Checked) → Taken file m i r m′ → number-of r ≢ 0 → m′ ≡ m
+refused-keeps file m m′ i r t refused =
+    t .1
+    ∙ ap (λ (x : List ℕ). take (payload-size * i) m ++ over x (drop (payload-size * i) m)) (refused-bytes r (block-at file i) refused)
+    ∙ take-append-drop (payload-size * i) m
+
 module _ {file start m m′ : List ℕ} {n i : ℕ} (j : Joining file start m n i) (more : i < n) (r : Checked) (t : Taken file m i r m′) where
   pub joining-next : length file ≡ block-size * n → payload-size * n ≤ length m → r ≡ Payload → Joining file start m′ n (i + 1)
   unfolding payload-size block-size bytes-of
@@ -56,16 +63,9 @@ module _ {file start m m′ : List ℕ} {n i : ℕ} (j : Joining file start m n 
         decided = refusal-next file more good ∙ j .decided;
       }
 
-  -- a refused block decides, and leaves the memory as it was
-  module _ (refused : number-of r ≢ 0) where
-    pub refused-decides : number-of r ≡ blocks-refusal file 0 n
-    refused-decides = t .0 ∙ refusal-here file more (λ e. refused (t .0 ∙ e)) ∙ j .decided
-
-    pub refused-keeps : m′ ≡ m
-    refused-keeps =
-        t .1
-        ∙ ap (λ (x : List ℕ). take (payload-size * i) m ++ over x (drop (payload-size * i) m)) (refused-bytes r (block-at file i) refused)
-        ∙ take-append-drop (payload-size * i) m
+  -- a refused block decides
+  pub refused-decides : number-of r ≢ 0 → number-of r ≡ blocks-refusal file 0 n
+  refused-decides refused = t .0 ∙ refusal-here file more (λ e. refused (t .0 ∙ e)) ∙ j .decided
 
 -- what is behind all payloads is as it was
 pub joining-behind : {file start m : List ℕ} {n i : ℕ} → Joining file start m n i → drop (payload-size * n) m ≡ drop (payload-size * n) start

@@ -140,7 +140,7 @@ module _ {l : Limits} (sound : Sound l) (file whole : List ℕ) (accepted : salv
       let count : operations (kept file) ≡ operations (stream-of whole) = operations-same whole-header in
       let steps : schedule-length (kept file) ≡ schedule-length (stream-of whole) = steps-same whole-header in
       let long : stream-length (joined whole) ≡ stream-length (stream-of whole) = stream-length-alike (stream-alike whole good) in
-      let a = kept-but-count sound (kept file) (remains sound file accepted) in
+      let a = kept-but-count sound (kept file) (remains sound file accepted .header) there in
       record {
         front = λ i h. a .front i h ∙ whole-header .byte i (omega arith);
         behind = λ i low high. a .behind i low (omega arith) ∙ byte-of-whole i (omega arith) (omega arith);

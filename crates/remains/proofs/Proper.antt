@@ -13,41 +13,49 @@ use Rattle.job.specs.Stream.{operations, schedule-length, stream-length}
 use Rattle.job.specs.Refusals.{outside, bad-kind, bad-processes, bad-operations, bad-schedule-length}
 use Rattle.job.specs.File.{zeros, file-of, file-refusal, stream-of}
 use Rattle.job.specs.Calls.{write-number}
-use Rattle.job.proofs.Accepted.{Fine, Good-stream, good-written}
+use Rattle.job.proofs.Accepted.{Good-stream, good-written}
 use Rattle.job.proofs.Written.{written-accepted, written-stream}
-use Rattle.remains.specs.Kept.{kept, entries-kept, shortened}
+use Rattle.remains.specs.Kept.{kept, records-end, entries-kept, shortened}
 use Rattle.remains.specs.Salvage.{salvage-refusal, salvaged, kept-entries}
 use Rattle.remains.specs.Claims.{First-entries, Proper}
 use Rattle.remains.proofs.Shortened.{Same-but-count, kind-kept, processes-kept, operations-kept, first-entries, length-shortened, same-but-count}
-use Rattle.remains.proofs.Unmet.{Remains, all-unmet, few-steps}
+use Rattle.remains.proofs.Unmet.{In-range, Remains, all-unmet, few-steps}
 
-module _ {l : Limits} (sound : Sound l) (s : List ℕ) (r : Remains l s) where
+-- a header in range, with all its records
+module _ {l : Limits} (sound : Sound l) (s : List ℕ) (h : In-range l s) (there : records-end s ≤ length s) where
   -- no more entries are kept than the limits allow
-  few-kept : entries-kept s ≤ l .steps
+  pub few-kept : entries-kept s ≤ l .steps
   unfolding entries-kept
-  few-kept = omega (arith, few-steps (r .header))
+  few-kept = omega (arith, few-steps h)
 
   pub kept-but-count : Same-but-count (entries-kept s) s (shortened s)
-  kept-but-count = same-but-count s (r .records-there) (omega (arith, few-kept, sound .cells))
+  kept-but-count = same-but-count s there (omega (arith, few-kept, sound .cells))
 
-  shortened-fine : Fine l (shortened s)
+  pub shortened-range : In-range l (shortened s)
   unfolding bad-kind bad-processes bad-operations bad-schedule-length
-  shortened-fine =
+  shortened-range =
       let a = kept-but-count in
       record {
-        kind = ap (λ (n : ℕ). is-missing (kind-of n)) (kind-kept a) ∙ r .header .kinds;
-        processes = ap (outside 1 (l .processes)) (processes-kept a) ∙ r .header .process-count;
-        operations = ap (outside 1 (l .operations)) (operations-kept a) ∙ r .header .operation-count;
-        steps = ap (less (l .steps)) (a .count) ∙ le-less few-kept;
-        records = r .records;
-        schedule = r .schedule;
+        kinds = ap (λ (n : ℕ). is-missing (kind-of n)) (kind-kept a) ∙ h .kinds;
+        process-count = ap (outside 1 (l .processes)) (processes-kept a) ∙ h .process-count;
+        operation-count = ap (outside 1 (l .operations)) (operations-kept a) ∙ h .operation-count;
+        step-count = ap (less (l .steps)) (a .count) ∙ le-less few-kept;
       }
 
-  pub shortened-good : Good-stream l (shortened s)
+  pub shortened-size : length (shortened s) ≡ stream-length (shortened s)
   unfolding stream-length
-  shortened-good =
+  shortened-size =
       let a = kept-but-count in
-      record { size = let n : length (shortened s) ≡ 6 + 4 * operations s + entries-kept s = length-shortened s (r .records-there) in omega (arith, a .count, operations-kept a); fine = shortened-fine }
+      let n : length (shortened s) ≡ 6 + 4 * operations s + entries-kept s = length-shortened s there in
+      omega (arith, a .count, operations-kept a)
+
+shortened-good : {l : Limits} → Sound l → (s : List ℕ) → Remains l s → Good-stream l (shortened s)
+shortened-good {l} sound s r =
+    let h = shortened-range sound s (r .header) (r .records-there) in
+    record {
+      size = shortened-size sound s (r .header) (r .records-there);
+      fine = record { kind = h .kinds; processes = h .process-count; operations = h .operation-count; steps = h .step-count; records = r .records; schedule = r .schedule };
+    }
 
 module _ {l : Limits} (sound : Sound l) (file : List ℕ) (accepted : salvage-refusal l file ≡ 0) where
   pub remains : Remains l (kept file)
@@ -68,5 +76,5 @@ module _ {l : Limits} (sound : Sound l) (file : List ℕ) (accepted : salvage-re
   proper =
       record {
         accepted = written-accepted sound (shortened (kept file)) (zeros (most-file l)) taken;
-        its-job = subst (First-entries (entries-kept (kept file)) (kept file)) (sym stream-salvaged) (first-entries (kept-but-count sound (kept file) remains));
+        its-job = subst (First-entries (entries-kept (kept file)) (kept file)) (sym stream-salvaged) (first-entries (kept-but-count sound (kept file) (remains .header) (remains .records-there)));
       }

@@ -2,5 +2,4 @@
 pub mod Fresh
 pub mod Short
 pub mod Owned
-pub mod Cleared
 pub mod Replied

@@ -37,11 +37,12 @@ returns c =
     let j = c .before .before .before .before .before .before .before .loop .inv in
     let t = c .before .before .before .before .take-block in
     let refused = refused-number (t .result) (c .before .match .keys2) in
+    let p = c .before .before .before .before .before .before .before .before .before .before .args in
     let more = c .before .before .before .before .before .before .loop-test .taken in (
       c .number .ensures ∙ refused-decides j more (t .result) (t .ensures) refused,
       (
         (λ z. absurd (refused (sym (c .number .ensures) ∙ z))),
-        ap (drop (payload-size * c .before .before .before .before .before .before .before .before .before .before .args .count)) (refused-keeps j more (t .result) (t .ensures) refused) ∙ joining-behind j,
+        ap (drop (payload-size * p .count)) (refused-keeps (p .file .now) _ _ (c .before .before .before .before .before .before .before .loop .i) (t .result) (t .ensures) refused) ∙ joining-behind j,
       ),
     )
 

@@ -7,7 +7,7 @@ use Rattle.job.specs.Ready.{Ready, Named}
 use Rattle.hours.specs.Windowed.{windowed}
 use Rattle.wording.specs.Report.{report}
 use Rattle.report.specs.Reported.{Reported}
-use Rattle.replayer.proofs.Cleared.{front-length, cleared}
+use Rattle.job.proofs.Cleared.{front-length, cleared}
 use borrow.Author.Needs.{needs}
 use Rattle.replayer.proofs.replay_held.Statement.{statement}
 use Rattle.replayer.proofs.replay_held.Tie as tie

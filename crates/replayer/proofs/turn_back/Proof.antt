@@ -1,6 +1,6 @@
 -- `replayer::turn_back` meets its contract: the part that holds the stream is cleared. Assumes nothing.
 use Rattle.job.specs.File.{zeros}
-use Rattle.replayer.proofs.Cleared.{front-length, cleared}
+use Rattle.job.proofs.Cleared.{front-length, cleared}
 use borrow.Author.Needs.{needs}
 use Rattle.replayer.proofs.turn_back.Statement.{statement}
 use Rattle.replayer.proofs.turn_back.Tie as tie

@@ -1,10 +1,10 @@
--- The part of the work memory that a replay uses, and that part cleared. Assumes nothing.
+-- The part of the work memory that a call uses, and that part cleared. Assumes nothing.
 use mathlib.Core.Path.{_≡_, sym, ap, _∙_}
 use Prim.Native.Nat.{ℕ, _≤_}
 use mathlib.Core.List.{List, _++_}
 use lib.ListN.{length, take, drop}
 use lib.Seq.{length-take-le}
 use Rattle.job.specs.File.{zeros}
 
 -- the first bytes of the work memory, up to where the code ends them
 module _ {end most : ℕ} (work : List ℕ) (is : end ≡ most) (room : most ≤ length work) where
