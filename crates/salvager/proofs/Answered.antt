@@ -7,6 +7,7 @@ use native.Mathlib.Omega.{arith}
 use mathlib.Core.Bool.{Bool, true, false, _||_, or-true}
 use mathlib.Core.List.{List, [], _++_}
 use lib.ListN.{length, drop}
+use Rattle.basics.specs.Bytes.{Bytes}
 use Rattle.basics.specs.Choice.{pick, same}
 use Rattle.basics.proofs.Choice.{both, pick-true, pick-false, pick-then, pick-else, equal-same, unequal-same, same-equal, same-unequal, lt-less, le-less}
 use Rattle.memory.specs.Over.{over}
@@ -14,11 +15,17 @@ use Rattle.job.specs.declared.Limits.{Limits}
 use Rattle.job.specs.declared.Reply.{Reply}
 use Rattle.job.specs.Limits.{most-file, most-stream, Sound}
 use Rattle.job.specs.Stream.{schedule-length}
-use Rattle.job.specs.File.{zeros, file-of, zeros-behind}
+use Rattle.job.specs.File.{zeros, file-of, file-refusal, stream-of, zeros-behind}
+use Rattle.job.specs.Job.{job-of}
 use Rattle.job.specs.Calls.{small-work, held, write-number, write-length, write-out}
 use Rattle.remains.specs.Kept.{kept, entries-kept, shortened}
 use Rattle.remains.specs.Salvage.{salvage-refusal, salvaged, kept-entries, named-entries, small-room, salvage-number, counted, salvage-length, salvage-out, salvage-work}
 use Rattle.remains.specs.Looked.{looked}
+use Rattle.remains.specs.Claims.{Undamaged, Proper, Blocks-of}
+use Rattle.theory.specs.Short.{KeptRun}
+use Rattle.remains.proofs.Undamaged.{undamaged}
+use Rattle.remains.proofs.Proper.{proper}
+use Rattle.remains.proofs.Answers.{answers-kept}
 use Rattle.remains.proofs.Looked.{refusal-looked, shortened-looked, entries-looked, named-looked}
 use Rattle.salvager.specs.declared.SalvageReply.{SalvageReply}
 use Rattle.salvager.specs.Saved.{stream-number, accepted-or, Saved}
@@ -65,11 +72,28 @@ written-saved l s before after w r e done count named told =
 abbrev pub Told : Limits → List ℕ → List ℕ → List ℕ → List ℕ → List ℕ → SalvageReply → Type 0
 Told l file work out work′ out′ r =
     (r .number ≡ salvage-number l file work out)
-    × (r .length ≡ salvage-length l file work out)
-    × (r .kept ≡ counted l file work out (kept-entries file))
-    × (r .named ≡ counted l file work out (named-entries file))
-    × (out′ ≡ salvage-out l file work out)
-    × (work′ ≡ salvage-work l work out)
+    × ((r .length ≡ salvage-length l file work out)
+    × ((r .kept ≡ counted l file work out (kept-entries file))
+    × ((r .named ≡ counted l file work out (named-entries file))
+    × ((out′ ≡ salvage-out l file work out)
+    × (work′ ≡ salvage-work l work out)))))
+
+-- with what is true of every salvage
+abbrev pub Promised : Limits → List ℕ → List ℕ → List ℕ → List ℕ → List ℕ → SalvageReply → Type 0
+Promised l file work out work′ out′ r =
+    (r .number ≡ salvage-number l file work out)
+    × ((r .length ≡ salvage-length l file work out)
+    × ((r .kept ≡ counted l file work out (kept-entries file))
+    × ((r .named ≡ counted l file work out (named-entries file))
+    × ((out′ ≡ salvage-out l file work out)
+    × ((work′ ≡ salvage-work l work out)
+    × ((file-refusal l file ≡ 0 → Undamaged l file)
+    × ((salvage-refusal l file ≡ 0 → Proper l file)
+    × (salvage-refusal l file ≡ 0 → (whole : List ℕ) → file-refusal l whole ≡ 0 → Blocks-of whole file → KeptRun (job-of (stream-of whole)) (job-of (stream-of (salvaged file)))))))))))
+
+pub promised : {l : Limits} → Sound l → (file work out work′ out′ : List ℕ) (r : SalvageReply) → Bytes file → Told l file work out work′ out′ r → Promised l file work out work′ out′ r
+promised sound file work out work′ out′ r bytes t =
+    (t .0, (t .1 .0, (t .1 .1 .0, (t .1 .1 .1 .0, (t .1 .1 .1 .1 .0, (t .1 .1 .1 .1 .1, (undamaged sound file bytes, (proper sound file, λ accepted whole good same. answers-kept sound file whole accepted good same))))))))
 
 -- a memory is too small: number 1, and nothing is touched
 pub small-told : (l : Limits) (file work out : List ℕ) (r : SalvageReply) → small-room l work out ≡ true → (r .number ≡ 1) × (r .length ≡ 0) × (r .kept ≡ 0) × (r .named ≡ 0)
@@ -77,14 +101,8 @@ pub small-told : (l : Limits) (file work out : List ℕ) (r : SalvageReply) → 
 unfolding salvage-length salvage-out salvage-work counted salvage-number
 small-told l file work out r small told =
     let one : salvage-number l file work out ≡ 1 = pick-then _ _ small in
-    let not-zero : same (salvage-number l file work out) 0 ≡ false = unequal-same (λ z. let q : _≡_ {A = ℕ} 1 0 = sym one ∙ z in omega arith) in (
-      told .0 ∙ sym one,
-      told .1 ∙ sym (pick-else _ _ not-zero),
-      told .2 ∙ sym (pick-else _ _ not-zero),
-      told .3 ∙ sym (pick-else _ _ not-zero),
-      sym (pick-else _ _ not-zero),
-      sym (pick-then _ _ small),
-    )
+    let not-zero : same (salvage-number l file work out) 0 ≡ false = unequal-same (λ z. let q : _≡_ {A = ℕ} 1 0 = sym one ∙ z in omega arith) in
+    (told .0 ∙ sym one, (told .1 ∙ sym (pick-else _ _ not-zero), (told .2 ∙ sym (pick-else _ _ not-zero), (told .3 ∙ sym (pick-else _ _ not-zero), (sym (pick-else _ _ not-zero), sym (pick-then _ _ small))))))
 
 pub small-work-room : (l : Limits) (work out : List ℕ) → length work < most-stream l → small-room l work out ≡ true
 unfolding small-room small-work
@@ -95,18 +113,21 @@ unfolding small-room
 small-out-room l work out h = simp (lt-less h, or-true)
 
 -- both are large enough: what the leading blocks give, and a clear work memory
-pub large-told : {l : Limits} → Sound l → (file work out out′ : List ℕ) (r : SalvageReply) → most-stream l ≤ length work → most-file l ≤ length out → Saved l (looked l file) out out′ r
-    → Told l file work out (zeros (most-stream l) ++ drop (most-stream l) work) out′ r
+pub large-told : {l : Limits} → Sound l → (file work out work′ out′ : List ℕ) (r : SalvageReply) → most-stream l ≤ length work → most-file l ≤ length out
+    → work′ ≡ zeros (most-stream l) ++ drop (most-stream l) work → Saved l (looked l file) out out′ r → Told l file work out work′ out′ r
 unfolding salvage-length salvage-out salvage-work counted salvage-number small-room small-work held zeros-behind accepted-or stream-number salvaged
-large-told {l} sound file work out out′ r room large s =
+large-told {l} sound file work out work′ out′ r room large cleared s =
     let free : small-room l work out ≡ false = simp (le-less room, le-less large) in
     let number : stream-number l (looked l file) ≡ salvage-number l file work out = refusal-looked sound file ∙ sym (pick-else _ _ free) in
     let accepted : salvage-number l file work out ≡ 0 → salvage-refusal l file ≡ 0 = λ z. sym (pick-else _ _ free) ∙ z in
-    let files : salvage-number l file work out ≡ 0 → file-of (shortened (looked l file)) ≡ salvaged file = λ z. ap file-of (shortened-looked sound file (accepted z)) in (
+    let files : salvage-number l file work out ≡ 0 → file-of (shortened (looked l file)) ≡ salvaged file = λ z. ap file-of (shortened-looked sound file (accepted z)) in
+    let clear : zeros (most-stream l) ++ drop (most-stream l) work ≡ salvage-work l work out = ap (λ (n : ℕ). zeros n ++ drop (most-stream l) work) (sym (sub-zero (most-stream l))) ∙ sym (pick-else _ _ free) in (
       s .number ∙ number,
-      s .size ∙ alike _ _ _ _ 0 number (λ z. ap length (files z)),
-      s .kept ∙ alike _ _ _ _ 0 number (λ z. entries-looked sound file (accepted z)),
-      s .named ∙ alike _ _ _ _ 0 number (λ z. named-looked sound file (accepted z)),
-      s .left ∙ alike _ _ _ _ out number (λ z. ap (λ (x : List ℕ). over x out) (files z)),
-      ap (λ (n : ℕ). zeros n ++ drop (most-stream l) work) (sym (sub-zero (most-stream l))) ∙ sym (pick-else _ _ free),
+      (
+        s .size ∙ alike _ _ _ _ 0 number (λ z. ap length (files z)),
+        (
+          s .kept ∙ alike _ _ _ _ 0 number (λ z. entries-looked sound file (accepted z)),
+          (s .named ∙ alike _ _ _ _ 0 number (λ z. named-looked sound file (accepted z)), (s .left ∙ alike _ _ _ _ out number (λ z. ap (λ (x : List ℕ). over x out) (files z)), cleared ∙ clear)),
+        ),
+      ),
     )

@@ -7,6 +7,7 @@ use native.Mathlib.Numerals.{add-one}
 use native.Mathlib.Omega.{arith}
 use mathlib.Core.List.{List, [], _++_, append-nil, append-assoc}
 use lib.ListN.{length, take, drop}
+use lib.Seq.{drop-append-add, drop-drop}
 use Rattle.basics.proofs.Laid.{Laid, laid-none, laid-piece, laid-whole}
 use Rattle.memory.specs.Over.{over}
 use Rattle.block.specs.Block.{block-size, payload-size, payload-of, block-refusal}
@@ -85,3 +86,11 @@ module _ {file start m : List ℕ} {n i : ℕ} (g : Gathering file start m n i) 
   pub all-left : payload-size * n ≤ length m → m ≡ over (payloads file 0 i) start
   unfolding payload-size
   all-left room = laid-whole (g .laid) (omega (arith, g .low))
+
+-- what stands behind a part of the memory is not changed with it
+pub behind-part : (part m : List ℕ) (a b : ℕ) → length part ≡ a → a ≤ b → drop b (part ++ drop a m) ≡ drop b m
+behind-part part m a b size low =
+    ap (λ (k : ℕ). drop k (part ++ drop a m)) (let e : b ≡ length part + (b - a) = omega arith in e)
+    ∙ drop-append-add part (drop a m) (b - a)
+    ∙ drop-drop (b - a) a m
+    ∙ ap (λ (k : ℕ). drop k m) (let e : a + (b - a) ≡ b = omega arith in e)

@@ -11,14 +11,19 @@ use Rattle.memory.proofs.Over.{part-over}
 use Rattle.job.specs.Stream.{operations}
 use Rattle.remains.specs.Kept.{records-end, entries-kept, shortened}
 
+-- it ends within the memory
+pub end-within : (s : List ℕ) → records-end s ≤ length s → records-end s + entries-kept s ≤ length s
+unfolding entries-kept
+end-within s there = omega arith
+
 length-word : (n : ℕ) → length (word-bytes n) ≡ 2
 unfolding word-bytes
 length-word n = omega arith
 
-pub in-place : (s part : List ℕ) {end count : ℕ} → records-end s ≤ length s → end ≡ records-end s + entries-kept s → count ≡ entries-kept s
+pub in-place : (s part : List ℕ) (end count : ℕ) → records-end s ≤ length s → end ≡ records-end s + entries-kept s → count ≡ entries-kept s
     → part ≡ over (word-bytes count) (take (length s - 4) (drop 4 s)) → take end (take 4 s ++ (part ++ drop (length s - 4) (drop 4 s))) ≡ shortened s
 unfolding records-end shortened
-in-place s part {end} {count} there is counted e =
+in-place s part end count there is counted e =
     let n : ℕ = entries-kept s in
     let k : ℕ = 4 * operations s + n in
     let rest : List ℕ = drop 6 s in

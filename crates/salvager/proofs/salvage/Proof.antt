@@ -1,80 +1,70 @@
+-- `salvager::salvage` meets its contract: nothing is touched before both memories are known to be large enough, and the work memory is cleared. What is true
+-- of every salvage is proved of the definitions (`remains`). Assumes nothing.
+use mathlib.Core.Path.{_≡_, sym, ap, _∙_}
+use Prim.Native.Nat.{ℕ, _≤_}
+use mathlib.Core.List.{List, _++_}
+use lib.ListN.{length, drop}
+use Rattle.basics.specs.Maps.{at}
+use Rattle.job.specs.File.{zeros}
+use Rattle.job.specs.Limits.{most-stream}
+use Rattle.job.proofs.Cleared.{front-length, cleared}
+use Rattle.salvager.proofs.Answered.{promised, small-told, small-work-room, small-out-room, large-told}
 use borrow.Author.Needs.{needs}
+use native.Mathlib.Omega.{arith}
 use Rattle.salvager.proofs.salvage.Statement.{statement}
 use Rattle.salvager.proofs.salvage.Tie as tie
-use Rattle.salvager.proofs.salvage.Reads as reads
-use Rattle.salvager.proofs.salvage.Lts as lts
-use Rattle.job.proofs.Limits.most_file.Reads as most-file-reads
-use Rattle.job.proofs.Limits.most_stream.Reads as most-stream-reads
-use Rattle.memory.proofs.clear.Reads as clear-reads
-use Rattle.salvager.proofs.SalvageReply.refused.Reads as refused-reads
-use Rattle.salvager.proofs.save_file.Reads as save-file-reads
 
--- src/lib.rt:162:9
-most-stream-requires : tie.Need-most-stream-requires
-most-stream-requires c κs = search needs
-
--- src/lib.rt:164:9
-refused-requires : tie.Need-refused-requires
-refused-requires c κs = search needs
-
--- src/lib.rt:164:9
 returns : tie.Need-returns
-returns c = ?
+unfolding at
+returns c =
+    let p = c .before .before .before .before .before .before .args in
+    let bytes = c .before .before .before .before .before .shared-slice-known .given in
+    promised (c .before .before .before .before .before .before .pre) (p .file .now) (p .work .now) (p .out .now) (p .work .now) (p .out .now) (c .refused .result) (record { byte = λ i. bytes i .fits })
+    (small-told (p .limits) (p .file .now) (p .work .now) (p .out .now) (c .refused .result) (small-work-room (p .limits) (p .work .now) (p .out .now) (omega (arith, c .before .if1 .taken, c .before .before .most-stream .ensures))) (c .refused .ensures))
 
--- src/lib.rt:166:20
-most-file-requires : tie.Need-most-file-requires
-most-file-requires c κs = search needs
-
--- src/lib.rt:167:9
-refused-requires-2 : tie.Need-refused-requires-2
-refused-requires-2 c κs = search needs
-
--- src/lib.rt:167:9
 returns-2 : tie.Need-returns-2
-returns-2 c = ?
+unfolding at
+returns-2 c =
+    let p = c .before .before .before .before .before .before .before .before .args in
+    let bytes = c .before .before .before .before .before .before .before .shared-slice-known .given in
+    promised (c .before .before .before .before .before .before .before .before .pre) (p .file .now) (p .work .now) (p .out .now) (p .work .now) (p .out .now) (c .refused2 .result) (record { byte = λ i. bytes i .fits })
+    (small-told (p .limits) (p .file .now) (p .work .now) (p .out .now) (c .refused2 .result) (small-out-room (p .limits) (p .work .now) (p .out .now) (omega (arith, c .before .if2 .taken, c .before .before .most-file .ensures))) (c .refused2 .ensures))
 
--- src/lib.rt:169:9
-save-file-requires : tie.Need-save-file-requires
-save-file-requires c κs = search needs
-
--- src/lib.rt:170:11
-slice-relend-prefix-clear : tie.Need-slice-relend-prefix-clear
-slice-relend-prefix-clear c = search needs
-
--- src/lib.rt:170:11
 slice-aggregate-clear : tie.Need-slice-aggregate-clear
-slice-aggregate-clear c = ?
+slice-aggregate-clear c =
+    let s = c .before .before .before .before .before .save-file in
+    let end = c .before .before .before .before .before .before .before .before .before .before .before .most-stream .ensures in
+    front-length (s .last .1 .1 .0) end (omega (arith, c .before .before .before .before .before .before .before .before .before .before .if1 .left, end, s .kept .1 .1 .0))
 
--- src/lib.rt:170:5
-clear-requires : tie.Need-clear-requires
-clear-requires c κs = search needs
-
--- src/lib.rt:150:1
-same-length : tie.Need-same-length
-same-length c = search needs
-
--- src/lib.rt:150:1
-same-length-2 : tie.Need-same-length-2
-same-length-2 c = search needs
-
--- src/lib.rt:150:1
 returns-3 : tie.Need-returns-3
-returns-3 c = ?
+unfolding at zeros
+returns-3 c =
+    let start = c .before .before .before .before .before .before .before .before .before .before .before .before .before .before .before .before .before .before in
+    let p = start .args in
+    let bytes = c .before .before .before .before .before .before .before .before .before .before .before .before .before .before .before .before .before .shared-slice-known .given in
+    let s = c .before .before .before .before .before .before .before .before .save-file in
+    let end = c .before .before .before .before .before .before .before .before .before .before .before .before .before .before .most-stream .ensures in
+    let room : most-stream (p .limits) ≤ length (p .work .now) = omega (arith, c .before .before .before .before .before .before .before .before .before .before .before .before .before .if1 .left, end) in
+    let cleared-front = cleared (s .last .1 .1 .0) end (omega (arith, room, s .kept .1 .1 .0)) (c .before .before .clear .last .0) (c .before .before .clear .ensures) in
+    promised (start .pre) (p .file .now) (p .work .now) (p .out .now) _ (s .last .1 .1 .1 .0) (s .result) (record { byte = λ i. bytes i .fits })
+    (large-told (start .pre) (p .file .now) (p .work .now) (p .out .now) _ (s .last .1 .1 .1 .0) (s .result) room (omega (arith, c .before .before .before .before .before .before .before .before .before .before .before .if2 .left, c .before .before .before .before .before .before .before .before .before .before .before .before .most-file .ensures))
+    (cleared-front ∙ ap (λ (x : List ℕ). zeros (most-stream (p .limits)) ++ x) (s .ensures .1))
+    (s .ensures .0))
 
 pub salvage-spec : {M : Type 1} → statement M
 salvage-spec =
     tie.close
     (tie.spec
-    most-stream-requires
-    refused-requires
+    (λ c κs. search needs)
+    (λ c κs. search needs)
     returns
-    most-file-requires
-    refused-requires-2
+    (λ c κs. search needs)
+    (λ c κs. search needs)
     returns-2
-    save-file-requires
-    slice-relend-prefix-clear
+    (λ c κs. search needs)
+    (λ c. search needs)
     slice-aggregate-clear
-    clear-requires
-    same-length
-    same-length-2
+    (λ c κs. search needs)
+    (λ c. search needs)
+    (λ c. search needs)
     returns-3)

@@ -1,122 +1,102 @@
+-- `salvager::save` meets its contract: the conditions in their order, and then a write of the shortened stream. Assumes nothing.
+use mathlib.Core.Path.{_≡_, sym, ap, _∙_}
+use Prim.Native.Nat.{ℕ, _+_, _≤_}
+use mathlib.Core.List.{List}
+use lib.ListN.{length, take}
+use lib.Seq.{length-take-le}
+use Rattle.job.specs.Calls.{write-number, write-length, write-out}
+use Rattle.remains.specs.Kept.{records-end, entries-kept}
+use Rattle.remains.proofs.Proper.{few-kept}
+use Rattle.salvager.proofs.InPlace.{end-within}
+use Rattle.salvager.proofs.Decided.{short-decides, header-decides, in-range, records-decide, write-decides}
+use Rattle.salvager.proofs.Answered.{refused-saved, written-saved}
 use borrow.Author.Needs.{needs}
+use native.Mathlib.Omega.{arith}
 use Rattle.salvager.proofs.save.Statement.{statement}
 use Rattle.salvager.proofs.save.Tie as tie
-use Rattle.salvager.proofs.save.Reads as reads
-use Rattle.salvager.proofs.save.Lts as lts
-use Rattle.job.proofs.header.Reads as header-reads
-use Rattle.job.proofs.schedule_length.Reads as schedule-length-reads
-use Rattle.salvager.proofs.SalvageReply.refused.Reads as refused-reads
-use Rattle.salvager.proofs.records_end.Reads as records-end-reads
-use Rattle.salvager.proofs.shorten.Reads as shorten-reads
-use Rattle.salvager.proofs.with_counts.Reads as with-counts-reads
-use Rattle.writer.proofs.write.Reads as write-reads
 
--- src/lib.rt:120:9
-refused-requires : tie.Need-refused-requires
-refused-requires c κs = search needs
-
--- src/lib.rt:120:9
 returns : tie.Need-returns
-returns c = ?
+returns c =
+    let p = c .before .before .before .before .args in
+    refused-saved (p .limits) (p .s .now) (p .out .now) (c .refused .result) (short-decides (p .limits) (p .s .now) (c .before .if1 .taken)) (λ z. let q : _≡_ {A = ℕ} 14 0 = z in omega arith) (c .refused .ensures)
 
--- src/lib.rt:122:9
-header-requires : tie.Need-header-requires
-header-requires c κs = search needs
-
--- src/lib.rt:124:9
-refused-requires-2 : tie.Need-refused-requires-2
-refused-requires-2 c κs = search needs
-
--- src/lib.rt:124:9
-same-length : tie.Need-same-length
-same-length c = search needs
-
--- src/lib.rt:124:9
 returns-2 : tie.Need-returns-2
-returns-2 c = ?
+returns-2 c =
+    let p = c .before .before .before .before .before .before .before .args in
+    refused-saved (p .limits) (p .s .now) (p .out .now) (c .refused2 .result)
+    (header-decides (p .limits) (p .s .now) (c .before .before .before .before .if1 .left) (c .before .before .header .ensures) (c .before .if2 .taken))
+    (c .before .if2 .taken) (c .refused2 .ensures)
 
--- src/lib.rt:126:9
-records-end-requires : tie.Need-records-end-requires
-records-end-requires c κs = search needs
-
--- src/lib.rt:128:9
-refused-requires-3 : tie.Need-refused-requires-3
-refused-requires-3 c κs = search needs
-
--- src/lib.rt:128:9
-same-length-2 : tie.Need-same-length-2
-same-length-2 c = search needs
-
--- src/lib.rt:128:9
 returns-3 : tie.Need-returns-3
-returns-3 c = ?
+returns-3 c =
+    let p = c .before .before .before .before .before .before .before .before .before .before .args in
+    refused-saved (p .limits) (p .s .now) (p .out .now) (c .refused3 .result)
+    (records-decide (p .limits) (p .s .now) (c .before .before .before .before .before .before .before .if1 .left) (c .before .before .before .before .before .header .ensures) (c .before .before .before .before .if2 .left) (omega (arith, c .before .if3 .taken, c .before .before .records-end .ensures)))
+    (λ z. let q : _≡_ {A = ℕ} 14 0 = z in omega arith) (c .refused3 .ensures)
 
--- src/lib.rt:130:9
-schedule-length-requires : tie.Need-schedule-length-requires
-schedule-length-requires c κs = search needs
-
--- src/lib.rt:131:9
-shorten-requires : tie.Need-shorten-requires
-shorten-requires c κs = search needs
-
--- src/lib.rt:132:27
 slice-reshare-prefix-write : tie.Need-slice-reshare-prefix-write
-slice-reshare-prefix-write c = ?
+slice-reshare-prefix-write c =
+    let third = c .before .before .before .before .before .before in
+    let p = third .before .before .before .before .before .before .before .before .before .args in
+    omega (arith, c .before .before .shorten .ensures .0, c .before .before .shorten .kept .0, end-within (p .s .now) (omega (arith, third .if3 .left, third .before .records-end .ensures)))
 
--- src/lib.rt:132:27
 slice-aggregate-write : tie.Need-slice-aggregate-write
-slice-aggregate-write c = ?
+slice-aggregate-write c =
+    let third = c .before .before .before .before .before .before .before in
+    let p = third .before .before .before .before .before .before .before .before .before .args in
+    sym (length-take-le _ (c .before .before .before .shorten .last .0) (omega (arith, c .before .before .before .shorten .ensures .0, c .before .before .before .shorten .kept .0, end-within (p .s .now) (omega (arith, third .if3 .left, third .before .records-end .ensures)))))
 
--- src/lib.rt:132:9
-write-requires : tie.Need-write-requires
-write-requires c κs = search needs
-
--- src/lib.rt:133:21
-sub-with-counts : tie.Need-sub-with-counts
-sub-with-counts c = search needs
-
--- src/lib.rt:133:20
 cast-with-counts : tie.Need-cast-with-counts
-cast-with-counts c = ?
+cast-with-counts c =
+    let third = c .before .before .before .before .before .before .before .before .before .before .before in
+    let first = third .before .before .before .before .before .before in
+    let p = first .before .before .before .args in
+    let sound = first .before .before .before .pre .0 in
+    let few : entries-kept (p .s .now) ≤ p .limits .steps =
+    few-kept sound (p .s .now) (in-range (p .limits) (p .s .now) (first .if1 .left) (third .before .before .before .before .header .ensures) (third .before .before .before .if2 .left)) (omega (arith, third .if3 .left, third .before .records-end .ensures))
+    in
+    record { fits = omega (arith, few, sound .cells, c .before .before .before .before .before .before .before .shorten .ensures .0, third .before .records-end .ensures) }
 
--- src/lib.rt:133:5
-with-counts-requires : tie.Need-with-counts-requires
-with-counts-requires c κs = search needs
-
--- src/lib.rt:115:1
-same-length-3 : tie.Need-same-length-3
-same-length-3 c = search needs
-
--- src/lib.rt:115:1
-same-length-4 : tie.Need-same-length-4
-same-length-4 c = search needs
-
--- src/lib.rt:115:1
 returns-4 : tie.Need-returns-4
-returns-4 c = ?
+returns-4 c =
+    let third = c .before .before .before .before .before .before .before .before .before .before .before .before in
+    let first = third .before .before .before .before .before .before in
+    let p = first .before .before .before .args in
+    let l = p .limits in
+    let s : List ℕ = p .s .now in
+    let out : List ℕ = p .out .now in
+    let w = c .before .before .before .write in
+    let whole : records-end s ≤ length s = omega (arith, third .if3 .left, third .before .records-end .ensures) in
+    let stream = c .before .before .before .before .before .before .before .before .shorten .ensures .1 in
+    written-saved l s out (w .last .1 .1 .0) (w .result) (c .with-counts .result)
+    (write-decides l s (first .if1 .left) (third .before .before .before .before .header .ensures) (third .before .before .before .if2 .left) (first .before .before .before .pre .0) whole out (first .before .before .before .pre .1))
+    (w .ensures .0 ∙ ap (λ (x : List ℕ). write-number l x out) stream, w .ensures .1 .0 ∙ ap (λ (x : List ℕ). write-length l x out) stream, w .ensures .1 .1 ∙ ap (λ (x : List ℕ). write-out l x out) stream)
+    (omega (arith, c .before .before .before .before .before .before .before .before .shorten .ensures .0, third .before .records-end .ensures))
+    (c .before .before .before .before .before .before .before .before .before .before .schedule-length .ensures)
+    (c .with-counts .ensures)
 
 pub save-spec : {M : Type 1} → statement M
 save-spec =
     tie.close
     (tie.spec
-    refused-requires
+    (λ c κs. search needs)
     returns
-    header-requires
-    refused-requires-2
-    same-length
+    (λ c κs. search needs)
+    (λ c κs. search needs)
+    (λ c. search needs)
     returns-2
-    records-end-requires
-    refused-requires-3
-    same-length-2
+    (λ c κs. search needs)
+    (λ c κs. search needs)
+    (λ c. search needs)
     returns-3
-    schedule-length-requires
-    shorten-requires
+    (λ c κs. search needs)
+    (λ c κs. search needs)
     slice-reshare-prefix-write
     slice-aggregate-write
-    write-requires
-    sub-with-counts
+    (λ c κs. search needs)
+    (λ c. search needs)
     cast-with-counts
-    with-counts-requires
-    same-length-3
-    same-length-4
+    (λ c κs. search needs)
+    (λ c. search needs)
+    (λ c. search needs)
     returns-4)
