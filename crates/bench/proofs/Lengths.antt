@@ -18,6 +18,9 @@ use Rattle.job.specs.Calls.{small-work, read-number, read-length, write-number,
 use Rattle.job.proofs.Accepted.{Good-stream, accepted-good, written-good}
 use Rattle.job.proofs.Padded.{fine-small, length-file-of}
 use Rattle.job.proofs.View.{stream-fits}
+use Rattle.remains.specs.Kept.{kept, shortened}
+use Rattle.remains.specs.Salvage.{salvage-refusal, salvaged, small-room, salvage-number, counted, salvage-length}
+use Rattle.remains.proofs.Proper.{remains, shortened-good}
 use Rattle.wording.specs.Report.{report}
 use Rattle.replayer.specs.Replay.{small-memory, input-refusal, job-run, report-of, replay-number, replay-length}
 use Rattle.replayer.proofs.Short.{report-short}
@@ -45,10 +48,9 @@ module _ {l : Limits} (sound : Sound l) where
       (λ e. omega (arith, sound .blocks-fit, stream-fits file (accepted-good l file (unless-one (small-work l work) (file-refusal l file) (same-equal e)))))
       (λ e. omega arith)
 
-  file-small : (s out : List ℕ) → write-number l s out ≡ 0 → length (file-of s) < 2 ^ 32
+  file-small : (s : List ℕ) → Good-stream l s → length (file-of s) < 2 ^ 32
   unfolding block-size
-  file-small s out accepted =
-      let good : Good-stream l s = written-good l s out accepted .1 in
+  file-small s good =
       let size : length (file-of s) ≡ block-size * exact-count s = length-file-of s (good .size) in
       omega (arith, fine-small sound s (good .fine), sound .blocks-fit)
 
@@ -56,7 +58,14 @@ module _ {l : Limits} (sound : Sound l) where
   unfolding write-length
   write-small s out =
       pick-elim (λ x. x < 2 ^ 32) (same (write-number l s out) 0) (length (file-of s)) 0
-      (λ e. file-small s out (same-equal e))
+      (λ e. file-small s (written-good l s out (same-equal e) .1))
+      (λ e. omega arith)
+
+  pub salvage-small : (file work out : List ℕ) → salvage-length l file work out < 2 ^ 32
+  unfolding salvage-length counted salvage-number salvaged
+  salvage-small file work out =
+      pick-elim (λ x. x < 2 ^ 32) (same (salvage-number l file work out) 0) (length (salvaged file)) 0
+      (λ e. file-small (shortened (kept file)) (shortened-good sound (kept file) (remains sound file (unless-one (small-room l work out) (salvage-refusal l file) (same-equal e)))))
       (λ e. omega arith)
 
   pub replay-small : (file windows work out : List ℕ) → l .report < 2 ^ 32 → Bytes file → replay-length l file windows work out < 2 ^ 32

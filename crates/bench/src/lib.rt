@@ -2,13 +2,19 @@
 use job::Limits;
 use job::Reply;
 ghost use mathlib.Core.Path.{_≡_};
-ghost use Prim.Native.Nat.{_<_, _^_};
+ghost use mathlib.Core.List.{List};
+ghost use Prim.Native.Nat.{ℕ, _<_, _^_};
 ghost use Rattle.job.specs.declared.Kind.the-variants.{Queue};
 ghost use Rattle.job.specs.Limits.{field};
 ghost use Rattle.job.specs.Calls.{read-number, read-length, read-work, write-number, write-length, write-out};
+ghost use Rattle.job.specs.File.{file-refusal, stream-of};
+ghost use Rattle.job.specs.Job.{job-of};
 ghost use Rattle.machine.specs.Explained.{Explained};
 ghost use Rattle.theory.specs.Bounded.{Bounded};
 ghost use Rattle.theory.specs.Cut.{SameAsCut};
+ghost use Rattle.theory.specs.Short.{KeptRun};
+ghost use Rattle.remains.specs.Salvage.{salvage-refusal, salvaged, salvage-number, salvage-length, salvage-out, salvage-work};
+ghost use Rattle.remains.specs.Claims.{Undamaged, Proper, Blocks-of};
 ghost use Rattle.replayer.specs.Replay.{job-in, processes-in, job-run, shut-in, replay-number, replay-length, replay-report, replay-work};
 ghost use Rattle.bench.specs.Packed.{packed};
 
@@ -54,4 +60,21 @@ pub extern "C" fn bench_write(stream: &[u8], out: &mut [u8]) -> u64
     ensures out { λ r. ⌜ now (out .exit) ≡ write-out field (now (stream .entry)) (now (out .entry)) ⌝ }
 {
     pack(writer::write(Limits::field(), stream, out))
+}
+
+// Salvages a spoiled job file: the length of the proper file of what is kept, and that file in the output.
+#[no_mangle]
+pub extern "C" fn bench_salvage(file: &[u8], work: &mut [u8], out: &mut [u8]) -> u64
+    ensures answer { λ r. ⌜ r ≡ packed (salvage-number field (now (file .entry)) (now (work .entry)) (now (out .entry))) (salvage-length field (now (file .entry)) (now (work .entry)) (now (out .entry))) ⌝ }
+    ensures out { λ r. ⌜ now (out .exit) ≡ salvage-out field (now (file .entry)) (now (work .entry)) (now (out .entry)) ⌝ }
+    ensures work { λ r. ⌜ now (work .exit) ≡ salvage-work field (now (work .entry)) (now (out .entry)) ⌝ }
+    ensures undamaged { λ r. ⌜ (file-refusal field (now (file .entry)) ≡ 0 → Undamaged field (now (file .entry))) ⌝ }
+    ensures proper { λ r. ⌜ (salvage-refusal field (now (file .entry)) ≡ 0 → Proper field (now (file .entry))) ⌝ }
+    ensures answers { λ r. ⌜ (salvage-refusal field (now (file .entry)) ≡ 0 → (whole : List ℕ) → file-refusal field whole ≡ 0 → Blocks-of whole (now (file .entry)) → KeptRun (job-of (stream-of whole)) (job-of (stream-of (salvaged (now (file .entry)))))) ⌝ }
+{
+    let r = salvager::salvage(Limits::field(), file, work, out);
+    pack(Reply {
+        number: r.number,
+        length: r.length,
+    })
 }

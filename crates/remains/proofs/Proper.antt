@@ -49,7 +49,7 @@ module _ {l : Limits} (sound : Sound l) (s : List ℕ) (h : In-range l s) (there
       let n : length (shortened s) ≡ 6 + 4 * operations s + entries-kept s = length-shortened s there in
       omega (arith, a .count, operations-kept a)
 
-shortened-good : {l : Limits} → Sound l → (s : List ℕ) → Remains l s → Good-stream l (shortened s)
+pub shortened-good : {l : Limits} → Sound l → (s : List ℕ) → Remains l s → Good-stream l (shortened s)
 shortened-good {l} sound s r =
     let h = shortened-range sound s (r .header) (r .records-there) in
     record {

@@ -78,7 +78,14 @@ Told l file work out work′ out′ r =
     × ((out′ ≡ salvage-out l file work out)
     × (work′ ≡ salvage-work l work out)))))
 
--- with what is true of every salvage
+-- what is true of every salvage
+abbrev pub Claimed : Limits → List ℕ → Type 0
+Claimed l file =
+    (file-refusal l file ≡ 0 → Undamaged l file)
+    × ((salvage-refusal l file ≡ 0 → Proper l file)
+    × (salvage-refusal l file ≡ 0 → (whole : List ℕ) → file-refusal l whole ≡ 0 → Blocks-of whole file → KeptRun (job-of (stream-of whole)) (job-of (stream-of (salvaged file)))))
+
+-- both
 abbrev pub Promised : Limits → List ℕ → List ℕ → List ℕ → List ℕ → List ℕ → SalvageReply → Type 0
 Promised l file work out work′ out′ r =
     (r .number ≡ salvage-number l file work out)
@@ -87,9 +94,7 @@ Promised l file work out work′ out′ r =
     × ((r .named ≡ counted l file work out (named-entries file))
     × ((out′ ≡ salvage-out l file work out)
     × ((work′ ≡ salvage-work l work out)
-    × ((file-refusal l file ≡ 0 → Undamaged l file)
-    × ((salvage-refusal l file ≡ 0 → Proper l file)
-    × (salvage-refusal l file ≡ 0 → (whole : List ℕ) → file-refusal l whole ≡ 0 → Blocks-of whole file → KeptRun (job-of (stream-of whole)) (job-of (stream-of (salvaged file)))))))))))
+    × Claimed l file)))))
 
 pub promised : {l : Limits} → Sound l → (file work out work′ out′ : List ℕ) (r : SalvageReply) → Bytes file → Told l file work out work′ out′ r → Promised l file work out work′ out′ r
 promised sound file work out work′ out′ r bytes t =

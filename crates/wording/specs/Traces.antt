@@ -48,7 +48,9 @@ use Rattle.hours.specs.Open.{closes, in-window, has-weekday, open-on, since-mid
 use Rattle.hours.specs.Windowed.{is-shut, windowed}
 use Rattle.windows.specs.Examples as Blocks
 use Rattle.windows.specs.Examples.{window, windows}
+use Rattle.remains.specs.Kept.{records-end, entries-kept, shortened}
 use Rattle.wording.specs.WindowTraces.{window-traces, booked, promised-booked}
+use Rattle.wording.specs.CutTraces.{cut-traces, cut-stream, remained, promised-remained}
 use Rattle.wording.specs.Report.{object-line, action-text, answer-text, end-text, progress-text, operation-line, operation-lines, spaced, effect-text, record-line, record-lines, lost-line, left-line, report}
 
 -- a job, as its stream, and its whole report
@@ -285,10 +287,10 @@ promised t = record { number = 0; text = text (t .expected) }
 unfoldable pub bound-of : Trace → ℕ
 bound-of t = most-lost (job-of (t .job)) (schedule-length (t .job)) (processes (t .job))
 
--- the three tables, by one computation
-computed : (map replayed traces ≡ map promised traces) × (map bound-of (Lists.drop 31 traces) ≡ 4 ∷ 4 ∷ 2 ∷ 2 ∷ 1 ∷ []) × (map booked window-traces ≡ map promised-booked window-traces)
-unfolding put take below joined-records header stream traces replayed promised pick same less at upd word word-bytes text digits decimal block-size payload-size summed-size add-byte add-bytes sums block payload-of sum-differs misplaced block-refusal kind-number kinds look-up kind-of is-missing kind-found kind processes operations schedule-length record-at process action value scheduled slot-of process-of stream-length first-met any outside bad-kind bad-processes bad-operations bad-schedule-length exact-count bad-record bad-records bad-entry bad-schedule bad-padding header-conditions list-conditions most-file zeros block-at block-count payloads joined blocks padded file-of bad-length blocks-refusal bad-count stream-refusal file-refusal job-of fresh-memory set-from-to yes-if with-head with-tail with-top with-next with-mark with-upper row table position row-of successor end-of is-end ended is-return first-row have-read have-set access seek operation-after before fresh-state reach registers reached row-after place-after resting acting dropping step state-after answer-at answer-of is-answer event-of is-round is-linked item-of moved-to idle acted note-next note earliest latest made begins-round links joins ends first last answer start link join taken dropped-next dropped drop numbers sift largest takers first-move latest-start takes-at is-empty effect if-at line-at lines-to the-record walk left-in left tally lost millimetres half-way even-one nearest centimetres signed-decimal stage-text object-line action-text answer-text end-text progress-text operation-line operation-lines spaced effect-text record-line record-lines lost-line left-line report puts lines-of put-lines late-drop late-drops most-lost bound-of filled window Blocks.start windows window-traces booked promised-booked is-leap year-length days-of-years common-lengths month-length days-of-months from-to is-date day-number weekday-after weekday-before weekday year month day second entry-at weekdays opening closing bad-start bad-window bad-entries bad-rest bad-block no-block bad-windows closes in-window has-weekday open-on since-midnight day-of second-of is-open is-shut windowed idle-at
-computed = (refl, refl, refl)
+-- the four tables, by one computation
+computed : (map replayed traces ≡ map promised traces) × (map bound-of (Lists.drop 31 traces) ≡ 4 ∷ 4 ∷ 2 ∷ 2 ∷ 1 ∷ []) × (map booked window-traces ≡ map promised-booked window-traces) × (map remained cut-traces ≡ map promised-remained cut-traces)
+unfolding records-end entries-kept shortened cut-traces cut-stream remained promised-remained put take below joined-records header stream traces replayed promised pick same less at upd word word-bytes text digits decimal block-size payload-size summed-size add-byte add-bytes sums block payload-of sum-differs misplaced block-refusal kind-number kinds look-up kind-of is-missing kind-found kind processes operations schedule-length record-at process action value scheduled slot-of process-of stream-length first-met any outside bad-kind bad-processes bad-operations bad-schedule-length exact-count bad-record bad-records bad-entry bad-schedule bad-padding header-conditions list-conditions most-file zeros block-at block-count payloads joined blocks padded file-of bad-length blocks-refusal bad-count stream-refusal file-refusal job-of fresh-memory set-from-to yes-if with-head with-tail with-top with-next with-mark with-upper row table position row-of successor end-of is-end ended is-return first-row have-read have-set access seek operation-after before fresh-state reach registers reached row-after place-after resting acting dropping step state-after answer-at answer-of is-answer event-of is-round is-linked item-of moved-to idle acted note-next note earliest latest made begins-round links joins ends first last answer start link join taken dropped-next dropped drop numbers sift largest takers first-move latest-start takes-at is-empty effect if-at line-at lines-to the-record walk left-in left tally lost millimetres half-way even-one nearest centimetres signed-decimal stage-text object-line action-text answer-text end-text progress-text operation-line operation-lines spaced effect-text record-line record-lines lost-line left-line report puts lines-of put-lines late-drop late-drops most-lost bound-of filled window Blocks.start windows window-traces booked promised-booked is-leap year-length days-of-years common-lengths month-length days-of-months from-to is-date day-number weekday-after weekday-before weekday year month day second entry-at weekdays opening closing bad-start bad-window bad-entries bad-rest bad-block no-block bad-windows closes in-window has-weekday open-on since-midnight day-of second-of is-open is-shut windowed idle-at
+computed = (refl, refl, refl, refl)
 
 pub traces-proved : map replayed traces ≡ map promised traces
 traces-proved = computed .0
@@ -298,3 +300,6 @@ bounds-proved = computed .1
 
 pub window-traces-proved : map booked window-traces ≡ map promised-booked window-traces
 window-traces-proved = computed .2
+
+pub cut-traces-proved : map remained cut-traces ≡ map promised-remained cut-traces
+cut-traces-proved = computed .3
