@@ -3,7 +3,7 @@
 use bench_command::arguments::{Arguments, Command};
 use bench_command::status::{Failure, Status, say};
 use bench_command::steps::Asked;
-use bench_command::{make, picture, reading, replay, steps, text, why, windows};
+use bench_command::{make, picture, reading, replay, salvage, steps, text, why, windows};
 use clap::Parser;
 use std::io::{self, Write};
 use std::process::ExitCode;
@@ -37,6 +37,7 @@ fn run(command: Command) -> Result<Status, Failure> {
         Command::Windows { file, out, .. } => windows::run(&file, out.as_deref()),
         Command::Replay(arguments) => replay::run(&arguments),
         Command::Why { file, within } => why::run(file.as_deref(), within.windows.as_deref()),
+        Command::Salvage { file, out } => salvage::run(&file, out.as_deref()),
         Command::Reading { file, number, within, .. } => reading::run(&file, within.windows.as_deref(), number),
         Command::Steps { file, op, from, to, within } => steps::run(&file, within.windows.as_deref(), Asked { op, from, to }),
         Command::Picture { file, out, within } => picture::run(&file, within.windows.as_deref(), out.as_deref()),
