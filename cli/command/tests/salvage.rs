@@ -6,11 +6,10 @@ mod shared;
 use bench_command::why::blocks::first_wrong;
 use bench_command::why::place::{self, Place};
 use pigwazet::limits::{BLOCK, HEADER, PAYLOAD, RECORD};
-use second::damage::{self, FILE_NUMBERS};
 use second::file::{seal_sums, sealed};
 use second::generate::Draft;
 use second::random::Random;
-use shared::{Room, full_size, generated, mended};
+use shared::{Room, damaged, full_size, generated, mended};
 use std::fs;
 use std::os::unix::fs::symlink;
 use std::process::{Command, Stdio};
@@ -223,11 +222,7 @@ fn mending_what_is_told_leads_to_what_can_be_salvaged() {
     let mut met = [0; 15];
     for seed in 0..1_500u64 {
         let (draft, _) = if seed.is_multiple_of(50) { full_size(seed) } else { generated(seed) };
-        for &number in &FILE_NUMBERS {
-            let second = *random.pick(&FILE_NUMBERS);
-            let faults: Vec<_> =
-                [number, second].iter().filter_map(|&number| damage::fault(number, &draft, &mut random)).collect();
-            let mut file = damage::file(&draft, &faults);
+        for (faults, mut file) in damaged(&draft, &mut random) {
             let mut last = None;
             let salvaged = loop {
                 let refusal = match pigwazet::salvage(&file) {

@@ -5,11 +5,11 @@ mod shared;
 
 use bench_command::why::place::{self, Place};
 use pigwazet::limits::{BLOCK, PAYLOAD};
-use second::damage::{self, FILE_NUMBERS};
+use second::damage::FILE_NUMBERS;
 use second::file::{seal_sums, sealed};
 use second::random::Random;
 use second::samples::listing;
-use shared::{Room, generated, mended};
+use shared::{Room, damaged, generated, mended};
 use std::fs;
 
 fn refused(file: &[u8]) -> Option<(u32, Place)> {
@@ -23,11 +23,7 @@ fn mending_what_is_told_mends_the_file_or_finds_a_later_fault() {
     let mut met = [0; 13];
     for seed in 0..1_000 {
         let (draft, _) = generated(seed);
-        for &number in &FILE_NUMBERS {
-            let second = *random.pick(&FILE_NUMBERS);
-            let faults: Vec<_> =
-                [number, second].iter().filter_map(|&number| damage::fault(number, &draft, &mut random)).collect();
-            let mut file = damage::file(&draft, &faults);
+        for (faults, mut file) in damaged(&draft, &mut random) {
             let mut last = None;
             while let Some((number, place)) = refused(&file) {
                 // blocks are looked at one after the other, each for 3 and then 4; all else goes by the number

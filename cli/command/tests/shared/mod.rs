@@ -3,6 +3,7 @@
 
 use bench_command::why::place::Place;
 use pigwazet::limits::PAYLOAD;
+use second::damage::{self, FILE_NUMBERS, Fault};
 use second::file::{BLOCK, seal_sums, sealed};
 use second::generate::order::Order;
 use second::generate::{self, Draft};
@@ -66,6 +67,17 @@ pub fn block(seed: u64) -> [u8; BLOCK] {
         }
     }
     windows.block()
+}
+
+/// A job's files with a fault of each number and a second one of any, and these faults.
+pub fn damaged(draft: &Draft, random: &mut Random) -> Vec<(Vec<Fault>, Vec<u8>)> {
+    let mut files = vec![];
+    for first in FILE_NUMBERS {
+        let second = *random.pick(&FILE_NUMBERS);
+        let faults: Vec<Fault> = [first, second].iter().filter_map(|&number| damage::fault(number, draft, random)).collect();
+        files.push((faults.clone(), damage::file(draft, &faults)));
+    }
+    files
 }
 
 /// Writes a good value at the place that is told.
