@@ -49,19 +49,6 @@ A process that no line names is shut: the line 'others always' has all such proc
         #[arg(long)]
         text: bool,
     },
-    /// Print the report of a job file, or of many
-    Replay(ReplayArguments),
-    /// Say in words why a job file or a window block is refused, where, and what to do
-    #[command(
-        after_help = "Where neither is refused, it says who was shut out of which turns, and which of their operations did not end."
-    )]
-    Why {
-        /// A job file, or - for standard input
-        #[arg(required_unless_present = "windows")]
-        file: Option<PathBuf>,
-        #[command(flatten)]
-        within: Within,
-    },
     /// Keep what remains of a spoiled job file, as a proper one
     #[command(
         after_help = "Kept are the leading full blocks, up to the first that is damaged, lost or out of its place. The header and all operations must be
@@ -75,6 +62,19 @@ Without --out, card.job becomes card.salvaged.job beside it; another file there 
         /// Where the proper file goes; - for standard output
         #[arg(short, long, value_name = "FILE")]
         out: Option<PathBuf>,
+    },
+    /// Print the report of a job file, or of many
+    Replay(ReplayArguments),
+    /// Say in words why a job file or a window block is refused, where, and what to do
+    #[command(
+        after_help = "Where neither is refused, it says who was shut out of which turns, and which of their operations did not end."
+    )]
+    Why {
+        /// A job file, or - for standard input
+        #[arg(required_unless_present = "windows")]
+        file: Option<PathBuf>,
+        #[command(flatten)]
+        within: Within,
     },
     /// Tell the fate of one reading, or list the doubles
     Reading {
