@@ -104,6 +104,14 @@ fn what_stands_behind_the_job_is_not_read() {
     for behind in [1, BLOCK - 1, BLOCK, 3 * BLOCK + 7, 3_000_000] {
         is(pigwazet::salvage(&[&file[..], &vec![0xff; behind]].concat()), expected(&whole, 2));
     }
+    // not even blocks that go on in order, more than any file has
+    let mut on = file.clone();
+    for block in 2..60 {
+        on.extend([7; BLOCK]);
+        on[block * BLOCK..][..2].copy_from_slice(&(block as u16).to_be_bytes());
+        seal(&mut on, block);
+    }
+    is(pigwazet::salvage(&on), expected(&whole, 2));
     // nor the padding, nor an entry that is lost
     is(pigwazet::salvage(&changed(file.clone(), 2 * PAYLOAD - 1, 1)), expected(&whole, 2));
     let wrong = changed(file.clone(), PAYLOAD, 3);
