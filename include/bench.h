@@ -8,7 +8,7 @@
  *   each of them must lie apart from every other memory of the call, and nobody else may use it before the call returns. What they hold at
  *   first does not matter.
  * - A call allocates nothing, keeps nothing and has no globals. It is reentrant, and any number of threads may call at once.
- * - A replay uses less than 39 KB of stack below its caller, a read or a write less than 1 KB: measured. A thread whose whole stack is BENCH_STACK
+ * - A replay uses less than 39 KB of stack below its caller, a read, a write or a salvage less than 1 KB: measured. A thread whose whole stack is BENCH_STACK
  *   bytes can make any call; that leaves it room for some 16 KB of its own, after what threads and dynamic linking take.
  * - Every call ends, for any bytes and any lengths, and gives number * 2^32 + length, to be taken apart by BENCH_NUMBER and BENCH_LENGTH.
  *   A refusal has length 0.
@@ -30,6 +30,7 @@
  *   12  A byte behind the stream is not zero.
  *   13  The window block is neither empty nor BENCH_WINDOWS bytes long, or has a wrong sum or number, a field out of its range, no such date,
  *       or a byte behind its fields that is not zero. Looked at only where the job is accepted.
+ *   14  Of a salvage: the header, or the records of all operations, are not whole.
  *
  * Transmission windows: a replay may be held to a window block, outside of whose windows a process does nothing: the step is idle, a drop
  * too, and keeps its number. With length 0 there is no block, and nothing is shut. The block, numbers big-endian and unsigned:
@@ -82,6 +83,19 @@ uint64_t bench_read(const uint8_t *file, size_t file_length,
  * is unchanged. */
 uint64_t bench_write(const uint8_t *stream, size_t stream_length,
                      uint8_t *out, size_t out_length);
+
+/* Keeps what remains of a spoiled job file: its leading full blocks up to the first that would be refused 3 or 4, and no more than the header
+ * asks for. If these hold the header and the records of all operations, the schedule is cut to the entries that they hold, and a proper file is
+ * written. Accepted: that file's length, the file in `out`, bytes past it unchanged. An undamaged file comes out the same. How many entries are
+ * kept stands in bytes 6 and 7 of `out`, how many the header names in bytes 6 and 7 of `file`, both big-endian.
+ *
+ * Any length of `file` is taken; a part of a block at its end, blocks behind those that the header asks for, and what stands behind the schedule
+ * are not looked at. Refused: `out` is unchanged. The numbers, in this order: 1 for work or output; 14 for the header; 5 to 8; 14 for the
+ * records; 10; 11, of the entries kept. There is no other. After every call but number 1 the first BENCH_WORK work bytes are zero. Work bytes
+ * past them never change. */
+uint64_t bench_salvage(const uint8_t *file, size_t file_length,
+                       uint8_t *work, size_t work_length,
+                       uint8_t *out, size_t out_length);
 
 #ifdef __cplusplus
 }

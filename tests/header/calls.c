@@ -80,6 +80,10 @@ static int is_the_report(uint64_t answer, const uint8_t *report) {
     return BENCH_NUMBER(answer) == 0 && BENCH_LENGTH(answer) == expected_length && memcmp(report, expected, expected_length) == 0;
 }
 
+static int is_the_file(uint64_t answer, const uint8_t *out) {
+    return answer == file_length && memcmp(out, file, file_length) == 0;
+}
+
 static void answers_are_taken_apart(void) {
     expect(BENCH_NUMBER(((uint64_t)12 << 32) + 345) == 12, "the number of an answer");
     expect(BENCH_LENGTH(((uint64_t)12 << 32) + 345) == 345, "the length of an answer");
@@ -91,6 +95,9 @@ static void least_lengths(void) {
     expect(bench_replay(file, file_length, NULL, 0, room->work, BENCH_WORK, room->report, BENCH_REPORT - 1) == (uint64_t)1 << 32, "replay, report short by one");
     expect(bench_read(file, file_length, room->work, BENCH_WORK - 1) == (uint64_t)1 << 32, "read, work short by one");
     expect(bench_write(stream, stream_length, room->out, BENCH_FILE - 1) == (uint64_t)1 << 32, "write, output short by one");
+    expect(bench_salvage(file, file_length, room->work, BENCH_WORK - 1, room->out, BENCH_FILE) == (uint64_t)1 << 32, "salvage, work short by one");
+    expect(bench_salvage(file, file_length, room->work, BENCH_WORK, room->out, BENCH_FILE - 1) == (uint64_t)1 << 32, "salvage, output short by one");
+    expect(bench_salvage(NULL, 0, room->work, BENCH_WORK, room->out, BENCH_FILE - 1) == (uint64_t)1 << 32, "salvage, output short by one and no file");
     expect(still_painted(room), "nothing is touched after number 1");
 
     expect(is_the_report(bench_replay(file, file_length, NULL, 0, room->work, BENCH_WORK, room->report, BENCH_REPORT), room->report), "replay, least lengths");
@@ -98,6 +105,8 @@ static void least_lengths(void) {
     expect(memcmp(room->work, stream, BENCH_WORK) == 0, "read, the stream and zeros");
     expect(bench_write(stream, stream_length, room->out, BENCH_FILE) == file_length, "write, least length");
     expect(memcmp(room->out, file, file_length) == 0, "write, the file");
+    memset(room->out, PAINT, sizeof room->out);
+    expect(is_the_file(bench_salvage(file, file_length, room->work, BENCH_WORK, room->out, BENCH_FILE), room->out), "salvage, least lengths");
     free(room);
 }
 
@@ -111,6 +120,9 @@ static void null_with_length_0(void) {
     expect(BENCH_NUMBER(bench_read(file, file_length, NULL, 0)) == 1, "read, no work");
     expect(BENCH_NUMBER(bench_write(NULL, 0, room->out, BENCH_FILE)) == 2, "write, no stream");
     expect(BENCH_NUMBER(bench_write(stream, stream_length, NULL, 0)) == 1, "write, no output");
+    expect(BENCH_NUMBER(bench_salvage(NULL, 0, room->work, BENCH_WORK, room->out, BENCH_FILE)) == 14, "salvage, no file");
+    expect(BENCH_NUMBER(bench_salvage(file, file_length, NULL, 0, room->out, BENCH_FILE)) == 1, "salvage, no work");
+    expect(BENCH_NUMBER(bench_salvage(file, file_length, room->work, BENCH_WORK, NULL, 0)) == 1, "salvage, no output");
     free(room);
 }
 
@@ -127,6 +139,8 @@ static void any_alignment(void) {
                "replay within windows, any alignment");
         expect(bench_read(from + at, file_length, work, BENCH_WORK) == stream_length, "read, any alignment");
         expect(bench_write(work, stream_length, out, BENCH_FILE) == file_length && memcmp(out, file, file_length) == 0, "write, any alignment");
+        memset(out, PAINT, BENCH_FILE);
+        expect(is_the_file(bench_salvage(from + at, file_length, work, BENCH_WORK, out, BENCH_FILE), out), "salvage, any alignment");
         free(room);
     }
     free(from);
@@ -188,6 +202,75 @@ static void windows(void) {
     free(room);
 }
 
+/* What a salvage leaves behind: work is zero and no more of it, output is untouched from a length on. */
+static void left_behind(const struct Room *room, size_t length) {
+    expect(all_are(room->work, BENCH_WORK, 0) && all_are(room->work + BENCH_WORK, SLACK, PAINT), "work is zero after a salvage, and no more of it");
+    expect(all_are(room->out + length, sizeof room->out - length, PAINT), "the output is untouched behind the file, or wholly after a refusal");
+}
+
+/* A salvage that keeps this many blocks of the file: they come out as they are, but for the number of entries and the sums of block 0. */
+static void kept(const uint8_t *spoiled, size_t length, size_t blocks, const char *what) {
+    static uint8_t wanted[BENCH_FILE];
+    struct Room *room = painted();
+    size_t entries = blocks * 506 - 6 - 4 * ((size_t)stream[2] * 256 + stream[3]), all = (size_t)stream[4] * 256 + stream[5];
+    if (entries > all) entries = all;
+    memcpy(wanted, file, blocks * 512);
+    wanted[6] = (uint8_t)(entries >> 8);
+    wanted[7] = (uint8_t)entries;
+    seal(wanted);
+    uint64_t answer = bench_salvage(spoiled, length, room->work, sizeof room->work, room->out, sizeof room->out);
+    expect(answer == blocks * 512 && memcmp(room->out, wanted, blocks * 512) == 0, what);
+    left_behind(room, blocks * 512);
+    expect(BENCH_NUMBER(bench_read(room->out, blocks * 512, room->work, BENCH_WORK)) == 0, "what came out is accepted");
+    free(room);
+}
+
+static void not_kept(const uint8_t *spoiled, size_t length, uint64_t number, const char *what) {
+    struct Room *room = painted();
+    expect(bench_salvage(spoiled, length, room->work, sizeof room->work, room->out, sizeof room->out) == number << 32, what);
+    left_behind(room, 0);
+    free(room);
+}
+
+/* A salvage refused for a byte of a block with right sums, of a file that is cut as well. */
+static void not_kept_byte(size_t block, size_t at, uint8_t value, uint64_t number, const char *what) {
+    static uint8_t spoiled[BENCH_FILE];
+    memcpy(spoiled, file, file_length);
+    spoiled[block * 512 + at] = value;
+    seal(spoiled + block * 512);
+    not_kept(spoiled, file_length - 1, number, what);
+}
+
+static void salvages_in_part(void) {
+    static uint8_t longer[BENCH_FILE + 1000];
+    size_t blocks = file_length / 512;
+    memset(longer, PAINT, sizeof longer);
+    memcpy(longer, file, file_length);
+    kept(longer, file_length, blocks, "salvage, the whole file");
+    kept(longer, sizeof longer, blocks, "salvage, a file with more behind it");
+    kept(longer, file_length - 1, blocks - 1, "salvage, a file short by one byte");
+    kept(longer, 3 * 512, 3, "salvage, the blocks with the records alone");
+    not_kept(longer, 3 * 512 - 1, 14, "salvage, records that are not whole");
+    not_kept(longer, 512, 14, "salvage, the header alone");
+    not_kept(longer, 511, 14, "salvage, a header that is not whole");
+    longer[file_length - 5] ^= 1; /* the last byte of the padding */
+    seal(longer + file_length - 512);
+    kept(longer, file_length, blocks, "salvage, padding that is not zero");
+    longer[20 * 512 + 300] ^= 1;
+    kept(longer, file_length, 20, "salvage, a block with a wrong sum");
+    longer[10 * 512 + 1] ^= 1;
+    seal(longer + 10 * 512);
+    kept(longer, file_length, 10, "salvage, a block with another number");
+    not_kept_byte(0, 1, 1, 14, "salvage, another number for block 0");
+    not_kept_byte(0, 2, 9, 5, "salvage, kind 9");
+    not_kept_byte(0, 3, 9, 6, "salvage, 9 processes");
+    not_kept_byte(0, 4, 2, 7, "salvage, 512 operations");
+    not_kept_byte(0, 6, 0x41, 8, "salvage, a schedule that is too long");
+    not_kept_byte(2, 1, 1, 14, "salvage, another number for the block with the last records");
+    not_kept_byte(0, 9, 3, 10, "salvage, action 3");
+    not_kept_byte(20, 300, 200, 11, "salvage, an entry of no process");
+}
+
 /* A call made on a thread: which one, and how far below its caller the stack was used. */
 struct Call {
     int (*make)(struct Room *);
@@ -210,6 +293,10 @@ static int reads(struct Room *room) {
 
 static int writes(struct Room *room) {
     return bench_write(stream, stream_length, room->out, BENCH_FILE) == file_length;
+}
+
+static int salvages(struct Room *room) {
+    return is_the_file(bench_salvage(file, file_length, room->work, BENCH_WORK, room->out, BENCH_FILE), room->out);
 }
 
 static void *make(void *call) {
@@ -268,19 +355,19 @@ static size_t stack_of(int (*calls)(struct Room *)) {
 }
 
 static void stack_used(void) {
-    size_t replay = stack_of(replays), within = stack_of(replays_within), read = stack_of(reads), write = stack_of(writes);
-    printf("stack used: replay %zu, within windows %zu, read %zu, write %zu bytes\n", replay, within, read, write);
+    size_t replay = stack_of(replays), within = stack_of(replays_within), read = stack_of(reads), write = stack_of(writes), salvage = stack_of(salvages);
+    printf("stack used: replay %zu, within windows %zu, read %zu, write %zu, salvage %zu bytes\n", replay, within, read, write, salvage);
     if (within > replay) replay = within;
     expect(replay < 39 * 1024, "a replay uses less than 39 KB of stack");
     expect(replay + 25 * 1024 <= BENCH_STACK, "BENCH_STACK leaves 16 KB for the caller, and 9 KB for the thread and the dynamic linker");
-    expect(read < 1000 && write < 1000, "a read or a write uses less than 1 KB of stack");
+    expect(read < 1000 && write < 1000 && salvage < 1000, "a read, a write or a salvage uses less than 1 KB of stack");
 }
 
 static void *again_and_again(void *good) {
     struct Room *room = painted();
     *(int *)good = 1;
     for (int i = 0; i < ROUNDS; i++)
-        if (!replays(room) || !replays_within(room) || !reads(room) || !writes(room)) *(int *)good = 0;
+        if (!replays(room) || !replays_within(room) || !reads(room) || !writes(room) || !salvages(room)) *(int *)good = 0;
     free(room);
     return NULL;
 }
@@ -312,6 +399,7 @@ int main(int count, char **argument) {
     null_with_length_0();
     windows();
     bad_windows();
+    salvages_in_part();
     any_alignment();
     stack_used();
     threads_at_once();

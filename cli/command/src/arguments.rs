@@ -49,6 +49,20 @@ A process that no line names is shut: the line 'others always' has all such proc
         #[arg(long)]
         text: bool,
     },
+    /// Keep what remains of a spoiled job file, as a proper one
+    #[command(
+        after_help = "Kept are the leading full blocks, up to the first that is damaged, lost or out of its place. The header and all operations must be
+among them; the schedule is cut to the entries in them. Each operation that ended in these steps has the answer of the whole job.
+Standard error has 'kept A of B entries', or 'refused' and the number, and then what that means.
+Without --out, card.job becomes card.salvaged.job beside it; another file there is left alone. The spoiled file always is."
+    )]
+    Salvage {
+        /// The spoiled job file, or - for standard input
+        file: PathBuf,
+        /// Where the proper file goes; - for standard output
+        #[arg(short, long, value_name = "FILE")]
+        out: Option<PathBuf>,
+    },
     /// Print the report of a job file, or of many
     Replay(ReplayArguments),
     /// Say in words why a job file or a window block is refused, where, and what to do

@@ -9,6 +9,7 @@ pub mod output;
 pub mod picture;
 pub mod reading;
 pub mod replay;
+pub mod salvage;
 pub mod status;
 pub mod steps;
 pub mod text;

@@ -3,7 +3,7 @@
 use bench_command::arguments::{Arguments, Command};
 use bench_command::status::{Failure, Status, say};
 use bench_command::steps::Asked;
-use bench_command::{make, picture, reading, replay, steps, text, why, windows};
+use bench_command::{make, picture, reading, replay, salvage, steps, text, why, windows};
 use clap::Parser;
 use std::io::{self, Write};
 use std::process::ExitCode;
@@ -35,6 +35,7 @@ fn run(command: Command) -> Result<Status, Failure> {
         Command::Text { file } => text::run(&file),
         Command::Windows { file, text: true, .. } => windows::text(&file),
         Command::Windows { file, out, .. } => windows::run(&file, out.as_deref()),
+        Command::Salvage { file, out } => salvage::run(&file, out.as_deref()),
         Command::Replay(arguments) => replay::run(&arguments),
         Command::Why { file, within } => why::run(file.as_deref(), within.windows.as_deref()),
         Command::Reading { file, number, within, .. } => reading::run(&file, within.windows.as_deref(), number),

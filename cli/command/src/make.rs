@@ -23,7 +23,7 @@ pub fn run(text: &Path, out: Option<&Path>) -> Result<Status, Failure> {
 }
 
 /// What was made.
-fn told(job: &Job) -> String {
+pub fn told(job: &Job) -> String {
     let processes = counted(usize::from(job.processes), "process", "processes");
     let operations = counted(job.operations.len(), "operation", "operations");
     let steps = counted(job.schedule.len(), "step", "steps");

@@ -25,7 +25,7 @@ fn furnished(room: Room) -> Room {
 }
 
 /// What is told with the usage.
-const WRONG_USE: [&str; 25] = [
+const WRONG_USE: [&str; 28] = [
     "",
     "nosuch",
     "make",
@@ -42,6 +42,9 @@ const WRONG_USE: [&str; 25] = [
     "windows a --text -o b",
     "text listing.job --windows a",
     "why",
+    "salvage",
+    "salvage a b",
+    "salvage listing.job --windows a",
     "reading listing.job",
     "reading listing.job 1 --doubles",
     "reading listing.job x",
@@ -56,13 +59,13 @@ const WRONG_USE: [&str; 25] = [
 #[test]
 fn help_and_wrong_use() {
     let room = room("use");
-    for words in ["help", "--help", "-h", "help make", "make --help", "help replay", "steps -h", "help windows"] {
+    for words in ["help", "--help", "-h", "help make", "make --help", "help replay", "steps -h", "help windows", "help salvage"] {
         let ran = room.bench(words);
         assert_eq!((ran.status, ran.said.as_str()), (0, ""), "{words}");
         assert!(ran.out.contains("Usage: bench"), "{words}");
     }
     let every = room.bench("help").out;
-    for command in ["make", "text", "windows", "replay", "why", "reading", "steps", "picture"] {
+    for command in ["make", "text", "windows", "replay", "why", "salvage", "reading", "steps", "picture"] {
         assert!(every.contains(&format!("\n  {command} ")), "{command}");
     }
     assert!(every.contains("Exit status: 0 all is well; 1 a job or a window block was refused; 2 wrong use, a wrong text"));
@@ -85,6 +88,7 @@ fn a_missing_file_is_told_by_every_command() {
         "replay",
         "why",
         "why --windows",
+        "salvage",
         "reading --doubles",
         "steps",
         "picture",
@@ -92,7 +96,7 @@ fn a_missing_file_is_told_by_every_command() {
     ] {
         room.bench(&format!("{words} none")).fails("none could not be read: No such file");
     }
-    for words in ["make", "text", "windows", "windows --text", "why", "reading --doubles", "steps", "picture"] {
+    for words in ["make", "text", "windows", "windows --text", "why", "salvage", "reading --doubles", "steps", "picture"] {
         room.bench(&format!("{words} .")).fails(". could not be read: Is a directory");
     }
 }
@@ -124,6 +128,7 @@ fn an_answer_that_cannot_be_written_is_status_two() {
         "windows --text satellite.win",
         "replay listing.job",
         "why listing.job",
+        "salvage listing.job -o -",
         "reading listing.job 1",
         "steps listing.job",
         "picture listing.job -o -",
@@ -135,6 +140,7 @@ fn an_answer_that_cannot_be_written_is_status_two() {
     }
     room.bench("make hour.txt -o no/such/folder.job").fails("no/such/folder.job could not be written: ");
     room.bench("windows satellite.windows -o no/such/folder.win").fails("no/such/folder.win could not be written: ");
+    room.bench("salvage listing.job -o no/such/folder.job").fails("no/such/folder.job could not be written: ");
     room.bench("picture listing.job -o no/such/folder.html").fails("no/such/folder.html could not be written: ");
     room.bench("replay listing.job --out listing.job").fails("The folder listing.job cannot be made: ");
 }

@@ -5,44 +5,16 @@ mod shared;
 
 use bench_command::why::place::{self, Place};
 use pigwazet::limits::{BLOCK, PAYLOAD};
-use second::damage::{self, FILE_NUMBERS};
+use second::damage::FILE_NUMBERS;
 use second::file::{seal_sums, sealed};
-use second::generate::Draft;
 use second::random::Random;
 use second::samples::listing;
-use shared::{Room, generated};
+use shared::{Room, damaged, generated, mended};
 use std::fs;
 
 fn refused(file: &[u8]) -> Option<(u32, Place)> {
     let refusal = pigwazet::read(file).err()?;
     Some((refusal.number(), place::decided(file, refusal).place))
-}
-
-/// Writes a good value at the place that is told.
-fn mended(file: &[u8], place: Place, number: u32, draft: &Draft) -> Vec<u8> {
-    let good = sealed(&draft.stream());
-    let mut file = file.to_vec();
-    match place {
-        Place::File => return good,
-        Place::Block(block) => {
-            let block_bytes = &mut file.as_chunks_mut::<BLOCK>().0[block];
-            if number == 4 {
-                block_bytes[..2].copy_from_slice(&(block as u16).to_be_bytes());
-            }
-            seal_sums(block_bytes);
-        }
-        _ => {
-            let byte = place.in_stream().unwrap();
-            let two = matches!(place, Place::Header(2 | 4) | Place::Record { field: 2, .. });
-            for byte in byte..byte + 1 + usize::from(two) {
-                let at = byte / PAYLOAD * BLOCK + 2 + byte % PAYLOAD;
-                file[at] = good.get(at).copied().unwrap_or_default();
-            }
-            let block = byte / PAYLOAD;
-            seal_sums(&mut file.as_chunks_mut::<BLOCK>().0[block]);
-        }
-    }
-    file
 }
 
 #[test]
@@ -51,11 +23,7 @@ fn mending_what_is_told_mends_the_file_or_finds_a_later_fault() {
     let mut met = [0; 13];
     for seed in 0..1_000 {
         let (draft, _) = generated(seed);
-        for &number in &FILE_NUMBERS {
-            let second = *random.pick(&FILE_NUMBERS);
-            let faults: Vec<_> =
-                [number, second].iter().filter_map(|&number| damage::fault(number, &draft, &mut random)).collect();
-            let mut file = damage::file(&draft, &faults);
+        for (faults, mut file) in damaged(&draft, &mut random) {
             let mut last = None;
             while let Some((number, place)) = refused(&file) {
                 // blocks are looked at one after the other, each for 3 and then 4; all else goes by the number

@@ -1,4 +1,4 @@
-//! The three calls as the proved library exports them, each over slices of our own.
+//! The four calls as the proved library exports them, each over slices of our own.
 
 use crate::limits::{FILE, WORK};
 use crate::refusal::Refusal;
@@ -17,6 +17,14 @@ unsafe extern "C" {
     ) -> u64;
     fn bench_read(file: *const u8, file_length: usize, work: *mut u8, work_length: usize) -> u64;
     fn bench_write(stream: *const u8, stream_length: usize, out: *mut u8, out_length: usize) -> u64;
+    fn bench_salvage(
+        file: *const u8,
+        file_length: usize,
+        work: *mut u8,
+        work_length: usize,
+        out: *mut u8,
+        out_length: usize,
+    ) -> u64;
 }
 
 /// A call answers number × 2^32 + length.
@@ -59,5 +67,15 @@ pub fn write(stream: &[u8]) -> Result<Vec<u8>, Refusal> {
     // SAFETY: as above.
     let length = answer(unsafe { bench_write(stream.as_ptr(), stream.len(), out.as_mut_ptr(), out.len()) })?;
     out.truncate(length);
+    Ok(out)
+}
+
+/// The proper file of what remains of a spoiled one.
+pub fn salvage(file: &[u8]) -> Result<Vec<u8>, Refusal> {
+    let (mut work, mut out) = (vec![0; WORK], vec![0; FILE]);
+    // SAFETY: as above.
+    let answered =
+        unsafe { bench_salvage(file.as_ptr(), file.len(), work.as_mut_ptr(), work.len(), out.as_mut_ptr(), out.len()) };
+    out.truncate(answer(answered)?);
     Ok(out)
 }

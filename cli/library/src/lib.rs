@@ -1,10 +1,11 @@
 //! The replay bench for queues, stacks and two-way linked stacks with multiplicity, for Rust callers.
 //!
-//! Three calls, each one call of the proved library (`include/bench.h`):
+//! Four calls, each one call of the proved library (`include/bench.h`):
 //!
 //! - [`replay()`] takes a job file and gives its [`Report`], or its [`Refusal`];
 //! - [`read()`] takes a job file and gives the [`Job`] in it;
-//! - [`write()`] takes a job and gives its file. One job has one file.
+//! - [`write()`] takes a job and gives its file. One job has one file;
+//! - [`salvage()`] takes a spoiled job file and gives a proper one of what remains of it.
 //!
 //! A replay may be held to transmission windows, outside of which a process does nothing: [`replay_within()`] takes a window block beside the job
 //! file, [`read_windows()`] and [`write_windows()`] have its fields under names, and [`Hours`] tells which steps are shut.
@@ -47,6 +48,7 @@ pub mod limits;
 mod memory;
 mod refusal;
 pub mod report;
+mod salvaged;
 mod windows;
 
 pub use hours::Hours;
@@ -54,6 +56,7 @@ pub use job::{Action, Job, Kind, Operation, Turn};
 pub use memory::Memory;
 pub use refusal::Refusal;
 pub use report::Report;
+pub use salvaged::Salvaged;
 pub use windows::{Start, Window, Windows};
 
 /// Replays the job in a file: the report that must come of it, or the refusal.
@@ -150,6 +153,31 @@ pub fn read(file: &[u8]) -> Result<Job, Refusal> {
 /// ```
 pub fn write(job: &Job) -> Result<Vec<u8>, Refusal> {
     calls::write(&job.stream())
+}
+
+/// Salvages a spoiled file: the proper file of what remains of it, or the refusal where header or records are not whole, or are wrong.
+///
+/// Kept are the leading full blocks before the first whose sum differs or whose number is not its position. Blocks behind those that the header
+/// asks for are not read, so a file may have any length; nor is the padding.
+///
+/// ```
+/// let hour = include_bytes!("../../../examples/flood-hour.job");
+/// assert_eq!(pigwazet::salvage(hour)?.file, hour);
+///
+/// // the card was cut: nine blocks are whole
+/// let salvaged = pigwazet::salvage(&hour[..5_000])?;
+/// assert_eq!(salvaged.to_string(), "kept 3524 of 16384 entries");
+///
+/// // what came out is a job file as any other, with the schedule cut
+/// let (whole, rest) = (pigwazet::read(hour)?, pigwazet::read(&salvaged.file)?);
+/// assert_eq!((rest.operations, &rest.schedule[..]), (whole.operations, &whole.schedule[..3_524]));
+///
+/// // without its first blocks nothing is left
+/// assert_eq!(pigwazet::salvage(&hour[..1_024]).unwrap_err().number(), 14);
+/// # Ok::<(), pigwazet::Refusal>(())
+/// ```
+pub fn salvage(file: &[u8]) -> Result<Salvaged, Refusal> {
+    calls::salvage(file).map(|out| Salvaged::of(file, out))
 }
 
 /// Reads a window block: the windows in it, none if it is empty, or the refusal.

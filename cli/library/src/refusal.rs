@@ -15,7 +15,7 @@ impl Refusal {
         Refusal(number)
     }
 
-    /// The number of the condition: 2 to 13, since this library lends memory enough.
+    /// The number of the condition: 2 to 14, since this library lends memory enough.
     pub fn number(self) -> u32 {
         self.0
     }
@@ -45,6 +45,7 @@ impl Refusal {
             WINDOWS => {
                 "the window block is neither empty nor 512 bytes long, or has a wrong sum, number or field, no such date, or a byte behind its fields that is not zero"
             }
+            14 => "the header or the records are not whole",
             _ => "a number that this version does not know",
         }
     }

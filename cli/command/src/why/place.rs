@@ -1,5 +1,6 @@
 //! Where a refusal was decided, what stands there, and what to do: for each number the first place that meets its condition.
 
+use super::blocks::{Wrong, first_wrong};
 use crate::input::{MOST, looks_like_text};
 use crate::words::{counted, grouped};
 use pigwazet::block::{held, sums};
@@ -71,12 +72,13 @@ pub fn word(bytes: &[u8], at: usize) -> u16 {
     u16::from_be_bytes([bytes[at], bytes[at + 1]])
 }
 
-/// What a file's payloads say, as far as the conditions before the one that decided let it be read.
+/// What the payloads of a file's leading right blocks say, as far as the conditions before the one that decided let it be read.
 struct Stream(Vec<u8>);
 
 impl Stream {
     fn of(file: &[u8]) -> Stream {
-        Stream(file.as_chunks::<BLOCK>().0.iter().flat_map(|block| &block[2..2 + PAYLOAD]).copied().collect())
+        let blocks = file.as_chunks::<BLOCK>().0.iter().take(first_wrong(file).0);
+        Stream(blocks.flat_map(|block| &block[2..2 + PAYLOAD]).copied().collect())
     }
 
     fn processes(&self) -> u8 {
@@ -103,16 +105,16 @@ impl Stream {
 /// What decided a refusal of this file.
 pub fn decided(file: &[u8], refusal: Refusal) -> Decided {
     let found = match refusal.number() {
-        2 | 3 if !file.is_empty() && looks_like_text(file) => Some(text(file)),
+        2 | 3 | 14 if is_text(file) => Some(text(file)),
         2 => Some(length(file)),
-        3 => sum(file),
-        4 => block_number(file),
+        3 | 4 => block(file),
         5 if pigwazet::read_windows(file).is_ok() => Some(windows()),
         5..=8 => Some(header(&Stream::of(file), refusal.number())),
         9 => Some(count(file)),
         10 => record(&Stream::of(file)),
         11 => entry(&Stream::of(file)),
         12 => padding(&Stream::of(file)),
+        14 => Some(not_whole(file)),
         _ => None,
     };
     found.unwrap_or_else(|| Decided {
@@ -126,6 +128,10 @@ pub fn decided(file: &[u8], refusal: Refusal) -> Decided {
 pub fn bytes(file: &[u8]) -> String {
     let most = if file.len() as u64 == MOST { " or more" } else { "" };
     format!("{}{most}", counted(file.len(), "byte", "bytes"))
+}
+
+pub fn is_text(file: &[u8]) -> bool {
+    !file.is_empty() && looks_like_text(file)
 }
 
 fn text(file: &[u8]) -> Decided {
@@ -152,10 +158,18 @@ fn length(file: &[u8]) -> Decided {
     Decided { place: Place::File, found, remedy }
 }
 
-fn sum(file: &[u8]) -> Option<Decided> {
-    let (position, block) = file.as_chunks().0.iter().enumerate().find(|(_, block)| sums(block) != held(block))?;
-    let remedy = "read the card again; if it stays so, the block is lost".to_string();
-    Some(Decided { place: Place::Block(position), found: sums_told(block), remedy })
+/// The first block that is wrong within.
+fn block(file: &[u8]) -> Option<Decided> {
+    let (position, wrong) = first_wrong(file);
+    let (found, remedy) = match wrong {
+        Wrong::Sum => (sums_told(file.as_chunks().0.get(position)?), "read the card again; if it stays so, the block is lost"),
+        Wrong::Number(number) => {
+            let found = format!("the number {}, where {position} belongs", grouped(usize::from(number)));
+            (found, "put the blocks into the order of their numbers; one that is not there is lost")
+        }
+        Wrong::Missing | Wrong::Part(_) => return None,
+    };
+    Some(Decided { place: Place::Block(position), found, remedy: remedy.to_string() })
 }
 
 /// Sums that are not those of their block.
@@ -164,12 +178,32 @@ pub fn sums_told(block: &[u8; BLOCK]) -> String {
     format!("the sums {a:04x} and {b:04x}; the block's bytes give {right_a:04x} and {right_b:04x}")
 }
 
-fn block_number(file: &[u8]) -> Option<Decided> {
-    let blocks = file.as_chunks::<BLOCK>().0.iter().enumerate();
-    let (position, block) = blocks.into_iter().find(|(position, block)| usize::from(word(*block, 0)) != *position)?;
-    let found = format!("the number {}, where {position} belongs", grouped(usize::from(word(block, 0))));
-    let remedy = "put the blocks into the order of their numbers; one that is not there is lost".to_string();
-    Some(Decided { place: Place::Block(position), found, remedy })
+/// The block without which header and records are not whole.
+fn not_whole(file: &[u8]) -> Decided {
+    let (right, wrong) = first_wrong(file);
+    let (place, found) = block(file).map_or_else(|| (Place::File, ended(file)), |decided| (decided.place, decided.found));
+    let again = match wrong {
+        Wrong::Number(_) => "put the blocks into the order of their numbers, or read the card again",
+        _ => "read the card again",
+    };
+    let needed = if right == 0 {
+        "block 0, which has the header".to_string()
+    } else {
+        let stream = Stream::of(file);
+        let last = (stream.schedule() - 1) / PAYLOAD;
+        format!("blocks 0 to {last}, which have the {}", counted(stream.operations(), "operation", "operations"))
+    };
+    Decided { place, found, remedy: format!("{again}: without {needed}, nothing of it can be salvaged") }
+}
+
+/// What a file has that ends too soon.
+fn ended(file: &[u8]) -> String {
+    let blocks = counted(file.len() / BLOCK, "block", "blocks");
+    match file.len() % BLOCK {
+        0 if file.is_empty() => "nothing: the file is empty".to_string(),
+        0 => format!("{blocks}, where the file ends"),
+        rest => format!("{blocks} and {}, where the file ends", counted(rest, "byte", "bytes")),
+    }
 }
 
 fn header(stream: &Stream, number: u32) -> Decided {
@@ -214,8 +248,9 @@ fn record(stream: &Stream) -> Option<Decided> {
 
 fn entry(stream: &Stream) -> Option<Decided> {
     let processes = stream.processes();
-    let schedule = &stream.0[stream.schedule()..stream.length()];
-    let mut turns = schedule.iter().map(|&entry| Turn::of(entry)).enumerate();
+    // of a salvage only the entries that are kept
+    let schedule = stream.0.iter().take(stream.length()).skip(stream.schedule());
+    let mut turns = schedule.map(|&entry| Turn::of(entry)).enumerate();
     let (index, turn) = turns.find(|(_, turn)| turn.process() >= processes)?;
     let place = Place::Entry { step: index + 1, byte: stream.schedule() + index };
     let found = match turn {

@@ -1,7 +1,10 @@
-//! What the tests share: jobs and windows of the second replayer's generators, and the command run in a folder of its own.
+//! What the tests share: jobs and windows of the second replayer's generators, damaged ones mended, and the command run in a folder of its own.
 #![allow(dead_code)]
 
-use second::file::{BLOCK, sealed};
+use bench_command::why::place::Place;
+use pigwazet::limits::PAYLOAD;
+use second::damage::{self, FILE_NUMBERS, Fault};
+use second::file::{BLOCK, seal_sums, sealed};
 use second::generate::order::Order;
 use second::generate::{self, Draft};
 use second::job::{DROP, OPERATIONS, STEPS};
@@ -64,6 +67,44 @@ pub fn block(seed: u64) -> [u8; BLOCK] {
         }
     }
     windows.block()
+}
+
+/// A job's files with a fault of each number and a second one of any, and these faults.
+pub fn damaged(draft: &Draft, random: &mut Random) -> Vec<(Vec<Fault>, Vec<u8>)> {
+    let mut files = vec![];
+    for first in FILE_NUMBERS {
+        let second = *random.pick(&FILE_NUMBERS);
+        let faults: Vec<Fault> = [first, second].iter().filter_map(|&number| damage::fault(number, draft, random)).collect();
+        files.push((faults.clone(), damage::file(draft, &faults)));
+    }
+    files
+}
+
+/// Writes a good value at the place that is told.
+pub fn mended(file: &[u8], place: Place, number: u32, draft: &Draft) -> Vec<u8> {
+    let good = sealed(&draft.stream());
+    let mut file = file.to_vec();
+    match place {
+        Place::File => return good,
+        Place::Block(block) => {
+            let block_bytes = &mut file.as_chunks_mut::<BLOCK>().0[block];
+            if number != 3 {
+                block_bytes[..2].copy_from_slice(&(block as u16).to_be_bytes());
+            }
+            seal_sums(block_bytes);
+        }
+        _ => {
+            let byte = place.in_stream().unwrap();
+            let two = matches!(place, Place::Header(2 | 4) | Place::Record { field: 2, .. });
+            for byte in byte..byte + 1 + usize::from(two) {
+                let at = byte / PAYLOAD * BLOCK + 2 + byte % PAYLOAD;
+                file[at] = good.get(at).copied().unwrap_or_default();
+            }
+            let block = byte / PAYLOAD;
+            seal_sums(&mut file.as_chunks_mut::<BLOCK>().0[block]);
+        }
+    }
+    file
 }
 
 /// What a run of the command gave.
