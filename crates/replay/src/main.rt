@@ -1,5 +1,7 @@
 // Replays the job file on standard input, with the window block in the file that the argument names: prints its report, or `refused`, a space and the number.
 use block::Checked;
+use console::refuse;
+use console::show;
 use job::Limits;
 use libc::STDIN_FILENO;
 use libc::STDOUT_FILENO;
@@ -12,22 +14,6 @@ const WINDOWS: usize = Checked::BLOCK + 1;
 
 // The longest name of a file.
 const NAME: usize = 4095;
-
-// `refused`, a space and a number of at most two digits.
-fn refuse(number: u8) {
-    io::write_all(STDOUT_FILENO, b"refused ");
-    if 10 <= number {
-        io::write_all(STDOUT_FILENO, &[b'0' + number / 10 % 10]);
-    }
-    io::write_all(STDOUT_FILENO, &[b'0' + number % 10, b'\n']);
-}
-
-// The first bytes of the report memory.
-fn show(report: &[u8], length: usize) {
-    if length <= report.len() {
-        io::write_all(STDOUT_FILENO, &report[..length]);
-    }
-}
 
 // A number of a memory's bytes: at most all.
 fn up_to(n: usize, of: &[u8]) -> usize
@@ -95,8 +81,8 @@ fn main() {
     let number = r.number;
     let length = r.length;
     if number != 0 {
-        refuse(number);
+        refuse(STDOUT_FILENO, number);
     } else {
-        show(&report, length);
+        show(STDOUT_FILENO, &report, length);
     }
 }

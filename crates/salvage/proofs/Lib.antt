@@ -1,0 +1,2 @@
+-- What the program says.
+pub mod Line
