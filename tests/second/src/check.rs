@@ -10,7 +10,9 @@ pub mod listing;
 pub mod lost;
 pub mod order;
 pub mod parse;
+pub mod salvage;
 pub mod seen;
+pub mod shortened;
 pub mod windows;
 
 use crate::calls::REPORT;
