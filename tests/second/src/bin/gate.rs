@@ -64,8 +64,8 @@ fn transmission_windows(bench: &mut Bench) {
 
 fn cut_files(bench: &mut Bench) {
     bench.group("salvage, reports by hand", salvage::traces::by_hand);
-    bench.group("salvage, the sample", salvage::traces::sample);
-    bench.group("salvage, entries counted by hand", salvage::traces::counted);
+    bench.group("salvage, the sample", salvage::counted::sample);
+    bench.group("salvage, entries counted by hand", salvage::counted::by_hand);
     bench.group("salvage that is wrong", salvage::traces::checks);
     bench.group("salvage, blocks spoiled alone", salvage::blocks::alone);
     bench.group("salvage, blocks spoiled in pairs", salvage::blocks::pairs);
@@ -75,11 +75,11 @@ fn cut_files(bench: &mut Bench) {
     bench.group("salvage, padding", salvage::inputs::padding);
     bench.group("salvage, ends of blocks", salvage::inputs::ends);
     bench.group("salvage, every order around a cut", salvage::orders::every);
-    bench.group("salvage, numbers in their order", salvage::refused::order);
-    bench.group("salvage, bytes of a header", salvage::refused::headers);
-    bench.group("salvage, records at the ends of blocks", salvage::refused::records);
-    bench.group("salvage, entries around the cut", salvage::refused::entries);
-    bench.group("salvage, random bytes", salvage::refused::random);
+    bench.group("salvage, numbers in their order", salvage::numbers::order);
+    bench.group("salvage, bytes of a header", salvage::fields::headers);
+    bench.group("salvage, records at the ends of blocks", salvage::fields::records);
+    bench.group("salvage, entries around the cut", salvage::fields::entries);
+    bench.group("salvage, random bytes", salvage::fields::random);
     bench.group("salvage, lent memories", salvage::rooms::all);
     bench.group("salvage, all that a cut does", salvage::reached);
 }

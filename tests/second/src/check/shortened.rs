@@ -104,8 +104,8 @@ fn stays(whole: &Report, line: &Line, cuts: &mut Cuts) -> Result<(), String> {
     ensure(stands, || format!("the line at {} stood at {}", line.at, before.at))
 }
 
-/// Of the lines that there were: a put at a kept step stays, an empty take if it ended in them, and a taker that did is still one. A
-/// queue's other takers are none.
+/// Of the lines that there were: a put at a kept step stays, an empty take if it ended in them, and a taker that did is still one. Takes of a
+/// queue or a linked stack stay if they stand at a kept step, and a queue's takers are those that ended.
 fn is_kept(whole: &Report, cut: &Report, line: &Line, steps: u16) -> Result<(), String> {
     let ended = |own: u16| whole.operations[usize::from(own) - 1].last.is_some_and(|last| last <= steps);
     let after = same(cut, &line.effect);
@@ -117,10 +117,9 @@ fn is_kept(whole: &Report, cut: &Report, line: &Line, steps: u16) -> Result<(), 
                 Some(Effect::Take(_, takers)) => takers,
                 _ => &[],
             };
-            all.iter().all(|own| match takers.contains(own) {
-                true => ended(*own) || whole.object != "queue",
-                false => !ended(*own),
-            })
+            let stays = whole.object == "stack" || after.is_some() == (line.at <= steps);
+            let may_be_open = whole.object != "queue";
+            stays && all.iter().all(|own| if takers.contains(own) { may_be_open || ended(*own) } else { !ended(*own) })
         }
     };
     ensure(kept, || format!("the line at {}, {:?}, has become {:?}", line.at, line.effect, after.map(|after| &after.effect)))

@@ -1,10 +1,12 @@
 //! Request 7: what remains of a cut file, and what is kept of the undamaged job's report.
 
 pub mod blocks;
+pub mod counted;
+pub mod fields;
 pub mod inputs;
+pub mod numbers;
 pub mod orders;
 pub mod random;
-pub mod refused;
 pub mod rooms;
 pub mod traces;
 
@@ -16,7 +18,7 @@ use crate::damage::cards::{self, Spoil};
 use crate::failure::kept;
 use crate::file::{BLOCK, sealed};
 use crate::generate::order::Order;
-use crate::generate::{Draft, drops};
+use crate::generate::{Draft, drops, put, take};
 use crate::random::Random;
 use crate::samples;
 use crate::speed::shapes;
@@ -100,6 +102,12 @@ fn drafts() -> Vec<Draft> {
     drafts
 }
 
+/// A queue of 200 operations, whose records end in block 1, and 1,700 steps: five blocks.
+fn draft_of_200() -> Draft {
+    let records = (0..200).map(|i| if i % 2 == 0 { put(i % 4, 15) } else { take(i % 4) }).collect();
+    Draft { kind: 1, processes: 4, records, schedule: (0..1_700).map(|step| (step % 4) as u8).collect() }
+}
+
 /// The file of another full-size job, whose header is in range too.
 fn foreign() -> Vec<u8> {
     sealed(&shapes::job(2, 256, 16_384, &Order::Uniform, 13).stream())
@@ -112,6 +120,13 @@ fn spoiled(file: &[u8], spoils: &[(usize, Spoil)], other: &[u8]) -> Vec<u8> {
         cards::spoil(&mut card, position, spoil, other);
     }
     card
+}
+
+/// Whether both sides answer an input with this number.
+fn number_is(bench: &mut Bench, input: &[u8], number: u32) -> Result<(), String> {
+    let answered = bench.compare.salvage(input).map_err(|why| kept("spoiled.card", input, why))?.number;
+    let same = answered == number;
+    if same { Ok(()) } else { Err(kept("spoiled.card", input, format!("{answered} in place of {number}"))) }
 }
 
 /// The cuts so far did all that a cut may do to a report.

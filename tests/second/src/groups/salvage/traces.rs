@@ -1,17 +1,16 @@
-//! Cuts worked out by hand from the papers: how many entries are kept, and what the report of them says. Three operations and their header
-//! take 18 bytes, so 488 entries go with them into the first block.
+//! Cuts with their reports, worked out by hand from the papers. Three operations and their header take 18 bytes, so 488 entries go with them
+//! into the first block.
 
-use super::{Whole, shortened, spoiled};
+use super::{shortened, spoiled};
 use crate::check;
 use crate::check::parse::Report;
 use crate::damage::cards::Spoil;
 use crate::failure::kept;
-use crate::file::{BLOCK, SUMMED, sealed};
+use crate::file::{BLOCK, sealed};
 use crate::generate::{Draft, put, take};
 use crate::groups::Bench;
 use crate::groups::traces::report_is;
 use crate::job::{DROP, Record};
-use crate::samples;
 
 const KEPT: usize = 488;
 /// A process without operations.
@@ -119,6 +118,7 @@ fn linked() -> Trace {
         wrong: &[
             ("at 488", "at 487"),
             ("at 488", "at 489"),
+            ("at 488 take 1 by 2\n", ""),
             ("by 2", "by 1"),
             ("last 5 done", "last - open"),
             ("linked", "stack"),
@@ -196,56 +196,6 @@ pub fn by_hand(bench: &mut Bench) -> Result<usize, String> {
         }
     }
     Ok(2 * traces.len())
-}
-
-/// The sample of a spoiled card: what comes out has fewer ended operations than the logger wrote, and a double that is none any more.
-pub fn sample(bench: &mut Bench) -> Result<usize, String> {
-    let mut whole = Whole::of(bench, &samples::spoiled::undamaged())?;
-    let before = bench.cuts;
-    let number = whole.salvage(bench, &samples::spoiled::card())?;
-    let shows = bench.cuts.opened > before.opened && bench.cuts.fewer > before.fewer;
-    if number == 0 && shows { Ok(1) } else { Err(format!("number {number}, something to be seen: {shows}")) }
-}
-
-/// Operations, steps, the first block that is spoiled, and what is kept of the steps, or else 14.
-const COUNTED: [(usize, usize, usize, Option<usize>); 20] = [
-    (1, 496, 0, None),
-    (1, 496, 1, Some(496)),
-    (1, 497, 1, Some(496)),
-    (1, 497, 2, Some(497)),
-    (1, 0, 1, Some(0)),
-    (124, 100, 1, Some(4)),
-    (125, 0, 1, Some(0)),
-    (125, 100, 0, None),
-    (125, 100, 1, Some(0)),
-    (125, 100, 2, Some(100)),
-    (126, 0, 1, None),
-    (126, 100, 1, None),
-    (126, 600, 2, Some(502)),
-    (251, 0, 2, Some(0)),
-    (251, 3, 2, Some(2)),
-    (252, 3, 2, None),
-    (256, 16_384, 2, None),
-    (256, 16_384, 3, Some(488)),
-    (256, 16_384, 34, Some(16_174)),
-    (256, 16_384, 35, Some(16_384)),
-];
-
-pub fn counted(bench: &mut Bench) -> Result<usize, String> {
-    for (operations, steps, bad, expected) in COUNTED {
-        let draft = Draft { kind: 2, processes: 1, records: vec![put(0, 7); operations], schedule: vec![0; steps] };
-        let stream = draft.stream();
-        let card = spoiled(&sealed(&stream), &[(bad, Spoil::Byte(SUMMED, 1))], &[]);
-        let answer = bench.compare.salvage(&card)?;
-        let fits = match expected {
-            None => answer.number == 14,
-            Some(entries) => bench.compare.output(answer) == sealed(&shortened(&stream, entries)),
-        };
-        if !fits {
-            return Err(kept("spoiled.card", &card, format!("N {operations}, S {steps}, block {bad} spoiled: {answer}")));
-        }
-    }
-    Ok(COUNTED.len())
 }
 
 /// The checks of a salvage, on what is wrong: reports that no cut gives, and other numbers and other bytes than those that come out.
