@@ -25,8 +25,8 @@ use crate::speed::shapes;
 use std::collections::BTreeSet;
 
 /// An undamaged job with its report, and how many entries the cuts of it kept that were held against it.
-pub(super) struct Whole {
-    pub(super) file: Vec<u8>,
+struct Whole {
+    file: Vec<u8>,
     stream: Vec<u8>,
     report: Report,
     held: BTreeSet<usize>,
@@ -34,7 +34,7 @@ pub(super) struct Whole {
 
 impl Whole {
     /// "An undamaged file comes out the same."
-    pub(super) fn of(bench: &mut Bench, draft: &Draft) -> Result<Whole, String> {
+    fn of(bench: &mut Bench, draft: &Draft) -> Result<Whole, String> {
         let stream = draft.stream();
         let file = sealed(&stream);
         let answer = bench.compare.salvage(&file)?;
@@ -50,7 +50,7 @@ impl Whole {
     }
 
     /// Salvages what has become of the file; gives the number.
-    pub(super) fn salvage(&mut self, bench: &mut Bench, input: &[u8]) -> Result<u32, String> {
+    fn salvage(&mut self, bench: &mut Bench, input: &[u8]) -> Result<u32, String> {
         self.try_salvage(bench, input).map_err(|why| kept("spoiled.card", input, why))
     }
 

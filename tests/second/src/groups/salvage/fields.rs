@@ -44,13 +44,8 @@ pub fn records(bench: &mut Bench) -> Result<usize, String> {
                 let whole = length / BLOCK * PAYLOAD >= HEADER + operations * RECORD;
                 let number = match operations {
                     _ if length == 0 => 14,
-                    1..=256 => {
-                        if whole {
-                            0
-                        } else {
-                            14
-                        }
-                    }
+                    1..=256 if whole => 0,
+                    1..=256 => 14,
                     _ => 7,
                 };
                 number_is(bench, &file[..length], number)?;
