@@ -1,6 +1,6 @@
 //! Demand 3 and requests 5 and 6, checked on one run: the report's record explains what the steps did, its lost line counts their returns, and
 //! shut steps did nothing. The report is taken as text, so that either side's can be judged; the steps come from the second replayer's log,
-//! which is itself checked against a plain memory.
+//! which is itself checked against a plain memory. Request 7 is checked on an answer (`salvage`) and on two reports (`shortened`).
 
 pub mod almanac;
 pub mod cut;
@@ -10,7 +10,9 @@ pub mod listing;
 pub mod lost;
 pub mod order;
 pub mod parse;
+pub mod salvage;
 pub mod seen;
+pub mod shortened;
 pub mod windows;
 
 use crate::calls::REPORT;

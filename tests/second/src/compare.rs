@@ -1,5 +1,7 @@
 //! Both sides on the same call: the same answer, and every byte of every lent memory, and of the margin behind it, the same.
 
+mod salvage;
+
 use crate::calls::{Calls, REPORT, SECOND};
 use crate::check;
 use crate::failure::guarded;
@@ -46,7 +48,7 @@ pub const ENOUGH: Lent = Lent { work: WORK, report: REPORT };
 struct Side {
     calls: Calls,
     work: Vec<u8>,
-    /// The report of a replay or the file of a write.
+    /// The report of a replay or the file of a write or a salvage.
     out: Vec<u8>,
 }
 
@@ -67,12 +69,13 @@ pub struct Compare {
     /// A pattern without zeros, from which both memories are filled before a call, at another place each time.
     pattern: Vec<u8>,
     pub calls: usize,
-    /// By call (replay, read, write): how often each number was met.
-    pub met: [[usize; NUMBERS]; 3],
+    /// By call (replay, read, write, salvage): how often each number was met.
+    pub met: [[usize; NUMBERS]; CALLS],
 }
 
 /// 0, and the refusals of documents 01 and 02.
-pub const NUMBERS: usize = 14;
+pub const NUMBERS: usize = 15;
+const CALLS: usize = 4;
 
 const SHIFTS: usize = 251;
 
@@ -98,7 +101,7 @@ fn difference(name: &str, second: &[u8], library: &[u8]) -> Result<(), String> {
 impl Compare {
     pub fn new() -> Compare {
         let pattern = (0..ROOM + MARGIN + SHIFTS).map(|i| (i * 167 % 255) as u8 + 1).collect();
-        Compare { second: Side::new(SECOND), library: Side::new(LIBRARY), pattern, calls: 0, met: [[0; NUMBERS]; 3] }
+        Compare { second: Side::new(SECOND), library: Side::new(LIBRARY), pattern, calls: 0, met: [[0; NUMBERS]; CALLS] }
     }
 
     /// Fills all memories, makes the call on both sides, compares the answers and every byte.

@@ -1,5 +1,6 @@
 //! Faults, one for each refusal, that can be put into a job's file or stream together; the first in the paper's order decides.
 
+pub mod cards;
 pub mod windows;
 
 use crate::file::{BLOCK, BLOCKS, PAYLOAD, SUMMED, seal_sums, sealed};

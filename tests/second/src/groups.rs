@@ -9,11 +9,13 @@ pub mod limits;
 pub mod lost;
 pub mod outcomes;
 pub mod rooms;
+pub mod salvage;
 pub mod traces;
 pub mod values;
 pub mod windows;
 
 use crate::check::Seen;
+use crate::check::shortened::Cuts;
 use crate::compare::Compare;
 use crate::failure::{Present, guarded};
 use std::time::Instant;
@@ -22,6 +24,7 @@ use std::time::Instant;
 pub struct Bench {
     pub compare: Compare,
     pub seen: Seen,
+    pub cuts: Cuts,
     pub present: Present,
     passed: usize,
     failed: usize,
@@ -29,7 +32,14 @@ pub struct Bench {
 
 impl Bench {
     pub fn new() -> Bench {
-        Bench { compare: Compare::new(), seen: Seen::default(), present: Present::new(), passed: 0, failed: 0 }
+        Bench {
+            compare: Compare::new(),
+            seen: Seen::default(),
+            cuts: Cuts::default(),
+            present: Present::new(),
+            passed: 0,
+            failed: 0,
+        }
     }
 
     /// Runs one group and prints what it tried, or what failed.

@@ -13,4 +13,4 @@ pub mod random;
 pub mod samples;
 pub mod speed;
 
-pub use second_replayer::{calendar, calls, file, job, linked, machine, queue, report, stack, watch, windows};
+pub use second_replayer::{calendar, calls, file, job, linked, machine, queue, report, salvage, stack, watch, windows};

@@ -15,9 +15,17 @@ unsafe extern "C" {
     ) -> u64;
     fn bench_read(file: *const u8, file_length: usize, work: *mut u8, work_length: usize) -> u64;
     fn bench_write(stream: *const u8, stream_length: usize, out: *mut u8, out_length: usize) -> u64;
+    fn bench_salvage(
+        file: *const u8,
+        file_length: usize,
+        work: *mut u8,
+        work_length: usize,
+        out: *mut u8,
+        out_length: usize,
+    ) -> u64;
 }
 
-pub const LIBRARY: Calls = Calls { replay, read, write };
+pub const LIBRARY: Calls = Calls { replay, read, write, salvage };
 
 pub fn replay(file: &[u8], windows: &[u8], work: &mut [u8], report: &mut [u8]) -> u64 {
     let (file, file_length) = (file.as_ptr(), file.len());
@@ -36,4 +44,9 @@ pub fn read(file: &[u8], work: &mut [u8]) -> u64 {
 pub fn write(stream: &[u8], out: &mut [u8]) -> u64 {
     // SAFETY: as above.
     unsafe { bench_write(stream.as_ptr(), stream.len(), out.as_mut_ptr(), out.len()) }
+}
+
+pub fn salvage(file: &[u8], work: &mut [u8], out: &mut [u8]) -> u64 {
+    // SAFETY: as above.
+    unsafe { bench_salvage(file.as_ptr(), file.len(), work.as_mut_ptr(), work.len(), out.as_mut_ptr(), out.len()) }
 }

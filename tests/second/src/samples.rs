@@ -1,10 +1,11 @@
 //! Sample jobs: the traces of document 01, as document 02 has them, jobs with drops, jobs that lose rounds and one with windows, with their
-//! texts, written out by hand, the jobs that docs/ shows, and a full-size hour of a flood.
+//! texts, written out by hand, the jobs that docs/ shows, a full-size hour of a flood, and a spoiled card.
 
 pub mod drops;
 pub mod flood;
 pub mod lost;
 pub mod satellite;
+pub mod spoiled;
 
 use crate::generate::{Draft, put, take, turns};
 use crate::windows::Windows;
@@ -201,8 +202,14 @@ pub fn all() -> Vec<(&'static str, Draft)> {
     samples.push(("drop-take", drops::take_dropped().draft));
     samples.push(("drop-idle", drops::nothing_dropped().draft));
     samples.push(("satellite", satellite::unbooked().draft));
+    samples.push(("salvaged", spoiled::salvaged()));
     samples.push(("smallest", smallest()));
     samples
+}
+
+/// The spoiled cards by the names of their files, and the samples that come out of them.
+pub fn cards() -> [(&'static str, Vec<u8>, &'static str); 1] {
+    [("spoiled", spoiled::card(), "salvaged")]
 }
 
 /// Those that have windows beside them, and their reports within.

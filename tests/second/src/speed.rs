@@ -68,6 +68,10 @@ pub fn read(files: &[Vec<u8>], rounds: usize) -> Measured {
     measured(files, rounds, |calls, file, memories| (calls.read)(file, &mut memories.work))
 }
 
+pub fn salvage(files: &[Vec<u8>], rounds: usize) -> Measured {
+    measured(files, rounds, |calls, file, memories| (calls.salvage)(file, &mut memories.work, &mut memories.out))
+}
+
 pub fn write(streams: &[Vec<u8>], rounds: usize) -> Measured {
     measured(streams, rounds, |calls, stream, memories| (calls.write)(stream, &mut memories.out))
 }

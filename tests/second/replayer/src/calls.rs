@@ -1,9 +1,9 @@
-//! The three calls of the second replayer, with the signatures of the library's.
+//! The four calls of the second replayer, with the signatures of the library's.
 
 use crate::file::{self, FILE_LIMIT, WORK};
 use crate::job::{HEADER, Header, Job, Refusal};
-use crate::report;
 use crate::windows::Windows;
+use crate::{report, salvage};
 
 /// The report memory that a replay needs.
 pub const REPORT: usize = 32_768;
@@ -11,15 +11,19 @@ pub const REPORT: usize = 32_768;
 /// A job's file, the window block or nothing, work and report memory.
 type Replay = fn(&[u8], &[u8], &mut [u8], &mut [u8]) -> u64;
 
-/// The three calls of one side; each answers number × 2^32 + length.
+/// A job's file, or what a spoiled card has of one, work memory, and the output that the file goes to.
+type Salvage = fn(&[u8], &mut [u8], &mut [u8]) -> u64;
+
+/// The four calls of one side; each answers number × 2^32 + length.
 #[derive(Clone, Copy)]
 pub struct Calls {
     pub replay: Replay,
     pub read: fn(&[u8], &mut [u8]) -> u64,
     pub write: fn(&[u8], &mut [u8]) -> u64,
+    pub salvage: Salvage,
 }
 
-pub const SECOND: Calls = Calls { replay, read, write };
+pub const SECOND: Calls = Calls { replay, read, write, salvage };
 
 fn answer(result: Result<usize, Refusal>) -> u64 {
     match result {
@@ -72,4 +76,14 @@ fn try_write(stream: &[u8], out: &mut [u8]) -> Result<usize, Refusal> {
     }
     Job::of(header, stream)?;
     Ok(file::seal(stream, out))
+}
+
+pub fn salvage(file: &[u8], work: &mut [u8], out: &mut [u8]) -> u64 {
+    if work.len() < WORK || out.len() < FILE_LIMIT {
+        return answer(Err(1));
+    }
+    let work = &mut work[..WORK];
+    let result = salvage::remains(file, work).map(|stream| file::seal(stream, out));
+    work.fill(0);
+    answer(result)
 }

@@ -35,6 +35,11 @@ pub fn payload(block: &[u8; BLOCK], position: usize) -> Result<&[u8], Refusal> {
     Ok(&block[2..SUMMED])
 }
 
+/// How many blocks the file of a job has.
+pub fn exact_count(header: &Header) -> usize {
+    header.length().div_ceil(PAYLOAD)
+}
+
 /// The job in a file and its length, its stream joined in `work`; or conditions 2 to 12. `work` has WORK bytes.
 pub fn open<'a>(file: &[u8], work: &'a mut [u8]) -> Result<(Job<'a>, usize), Refusal> {
     if file.is_empty() || file.len() > FILE_LIMIT || !file.len().is_multiple_of(BLOCK) {
@@ -46,7 +51,7 @@ pub fn open<'a>(file: &[u8], work: &'a mut [u8]) -> Result<(Job<'a>, usize), Ref
     }
     let stream = &work[..blocks.len() * PAYLOAD];
     let header = Header::of(stream)?;
-    if blocks.len() != header.length().div_ceil(PAYLOAD) {
+    if blocks.len() != exact_count(&header) {
         return Err(9);
     }
     let job = Job::of(header, stream)?;

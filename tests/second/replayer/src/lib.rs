@@ -9,6 +9,7 @@ pub mod linked;
 pub mod machine;
 pub mod queue;
 pub mod report;
+pub mod salvage;
 pub mod stack;
 pub mod text;
 pub mod watch;

@@ -1,7 +1,9 @@
 //! The gate run. Its last line is 'N passed, M failed', counted in test groups.
 
 use second::generate::STYLES;
-use second::groups::{Bench, bytes, every, faults, jobs, lengths, limits, lost, outcomes, rooms, traces, values, windows};
+use second::groups::{
+    Bench, bytes, every, faults, jobs, lengths, limits, lost, outcomes, rooms, salvage, traces, values, windows,
+};
 use std::process::ExitCode;
 
 /// Jobs of each style, a third of them of each kind (collisions are queues), and the first seed.
@@ -15,6 +17,7 @@ fn main() -> ExitCode {
     transmission_windows(&mut bench);
     bench.group("steps, every row both ways", jobs::reached);
     refusals(&mut bench);
+    cut_files(&mut bench);
     bench.group("lent memories", rooms::all);
     bench.group("every number of the table", faults::met);
     if bench.finish() { ExitCode::SUCCESS } else { ExitCode::FAILURE }
@@ -57,6 +60,28 @@ fn transmission_windows(bench: &mut Bench) {
     bench.group("window blocks, single changes", windows::refused::single_changes);
     bench.group("window blocks, changes with right sums", windows::refused::summed_changes);
     bench.group("window blocks behind other faults", windows::refused::behind_others);
+}
+
+fn cut_files(bench: &mut Bench) {
+    bench.group("salvage, reports by hand", salvage::traces::by_hand);
+    bench.group("salvage, the sample", salvage::counted::sample);
+    bench.group("salvage, entries counted by hand", salvage::counted::by_hand);
+    bench.group("salvage that is wrong", salvage::traces::checks);
+    bench.group("salvage, blocks spoiled alone", salvage::blocks::alone);
+    bench.group("salvage, blocks spoiled in pairs", salvage::blocks::pairs);
+    bench.group("salvage, single changes", salvage::blocks::single_changes);
+    bench.group("salvage, every length", salvage::inputs::every_length);
+    bench.group("salvage, long inputs", salvage::inputs::long);
+    bench.group("salvage, padding", salvage::inputs::padding);
+    bench.group("salvage, ends of blocks", salvage::inputs::ends);
+    bench.group("salvage, every order around a cut", salvage::orders::every);
+    bench.group("salvage, numbers in their order", salvage::numbers::order);
+    bench.group("salvage, bytes of a header", salvage::fields::headers);
+    bench.group("salvage, records at the ends of blocks", salvage::fields::records);
+    bench.group("salvage, entries around the cut", salvage::fields::entries);
+    bench.group("salvage, random bytes", salvage::fields::random);
+    bench.group("salvage, lent memories", salvage::rooms::all);
+    bench.group("salvage, all that a cut does", salvage::reached);
 }
 
 fn refusals(bench: &mut Bench) {

@@ -1,4 +1,5 @@
-//! Writes the sample jobs and their reports into the folder given, and the window blocks that some have beside them, with the reports within.
+//! Writes the sample jobs and their reports into the folder given, the window blocks that some have beside them, with the reports within, and the
+//! spoiled cards.
 
 use second::calls::REPORT;
 use second::file::sealed;
@@ -12,7 +13,8 @@ use std::{env, fs, io};
 fn main() -> io::Result<()> {
     let folder = PathBuf::from(env::args().nth(1).unwrap_or_else(|| "examples".to_string()));
     fs::create_dir_all(&folder)?;
-    samples::all().iter().try_for_each(|(name, draft)| write(&folder, name, draft))
+    samples::all().iter().try_for_each(|(name, draft)| write(&folder, name, draft))?;
+    samples::cards().iter().try_for_each(|(name, card, _)| fs::write(folder.join(format!("{name}.card")), card))
 }
 
 fn write(folder: &Path, name: &str, draft: &Draft) -> io::Result<()> {

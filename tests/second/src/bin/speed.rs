@@ -1,4 +1,4 @@
-//! Measures replay, read and write on both sides. The tables of docs/SPEED.md go to standard output, times to standard error.
+//! Measures replay, read, write and salvage on both sides. The tables of docs/SPEED.md go to standard output, times to standard error.
 
 use second::file::sealed;
 use second::generate::Draft;
@@ -88,13 +88,14 @@ fn full_size(rounds: usize) {
     mean_row("geometric mean of all eighteen", &[two.all(), third.all()].concat());
 }
 
-fn reading_and_writing(rounds: usize) {
-    heading("Read and write, 35 blocks");
+fn files_and_cards(rounds: usize) {
+    heading("Read, write and salvage, 35 blocks");
     for (kind, object) in OBJECTS {
         let drafts = jobs(kind, OPERATIONS, STEPS, &Order::Uniform);
         row(&format!("{object}, read"), &drafts, &speed::read(&files(&drafts), rounds));
         let streams: Vec<Vec<u8>> = drafts.iter().map(Draft::stream).collect();
         row(&format!("{object}, write"), &drafts, &speed::write(&streams, rounds));
+        row(&format!("{object}, salvage"), &drafts, &speed::salvage(&files(&drafts), rounds));
     }
 }
 
@@ -148,7 +149,7 @@ fn main() -> ExitCode {
     full_size(rounds);
     with_drops(rounds);
     within_windows(rounds);
-    reading_and_writing(rounds);
+    files_and_cards(rounds);
     shorter(rounds);
     ExitCode::SUCCESS
 }

@@ -110,13 +110,18 @@ pub fn threes(bench: &mut Bench) -> Result<usize, String> {
     Ok(count)
 }
 
-/// Every number of the tables was met: by replay 0 to 13, by read 0 to 12, by write those it has.
+/// The numbers of a salvage: "never 2, 3, 4, 9, 12 or 13".
+const SALVAGE_NUMBERS: [u32; 9] = [0, 1, 5, 6, 7, 8, 10, 11, 14];
+
+/// Every number of the tables was met: by replay 0 to 13, by read 0 to 12, by write and by salvage those they have; by salvage no other.
 pub fn met(bench: &mut Bench) -> Result<usize, String> {
-    let [replay, read, write] = &bench.compare.met;
+    let [replay, read, write, salvage] = &bench.compare.met;
     let met = |counts: &[usize; NUMBERS], numbers: &[u32]| numbers.iter().all(|&number| counts[number as usize] > 0);
-    println!("  replay {replay:?}\n  read {read:?}\n  write {write:?}");
+    println!("  replay {replay:?}\n  read {read:?}\n  write {write:?}\n  salvage {salvage:?}");
     let files = [0, 1].iter().chain(&FILE_NUMBERS).copied().collect::<Vec<_>>();
     let streams = [0, 1].iter().chain(&STREAM_NUMBERS).copied().collect::<Vec<_>>();
-    let all = met(replay, &files) && met(replay, &[13]) && met(read, &files) && met(write, &streams);
-    if all { Ok(2 * files.len() + streams.len() + 1) } else { Err("a number was never met".to_string()) }
+    let salvaged = met(salvage, &SALVAGE_NUMBERS) && salvage.iter().filter(|&&count| count > 0).count() == SALVAGE_NUMBERS.len();
+    let all = met(replay, &files) && met(replay, &[13]) && met(read, &files) && met(write, &streams) && salvaged;
+    let numbers = 2 * files.len() + streams.len() + 1 + SALVAGE_NUMBERS.len();
+    if all { Ok(numbers) } else { Err("a number was never met, or met where there is none".to_string()) }
 }

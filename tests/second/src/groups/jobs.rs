@@ -1,6 +1,7 @@
-//! Random jobs: write, read, replay and demand 3 on each, on some again within random windows, then a few random faults in file and stream.
+//! Random jobs: write, read, replay and demand 3 on each, on some again within random windows, then a few random faults in file and stream,
+//! and what remains of the file on spoiled cards.
 
-use super::Bench;
+use super::{Bench, salvage};
 use crate::check::seen::{Dropped, Seen, Shut};
 use crate::compare::ENOUGH;
 use crate::damage;
@@ -11,6 +12,8 @@ use crate::random::Random;
 
 /// One seed in so many has windows: of every style, as the styles go round in another number.
 const WINDOWS_ONE_IN: u64 = 3;
+/// One in so many, those behind them, is put on spoiled cards.
+const CARDS_ONE_IN: u64 = 3;
 
 /// The job of a seed, tried in every way.
 pub fn seed(bench: &mut Bench, seed: u64) -> Result<(), String> {
@@ -27,6 +30,10 @@ pub fn seed(bench: &mut Bench, seed: u64) -> Result<(), String> {
     guarded(|| bench.compare.file(&file)).map_err(|why| seeded(seed, &file, why))?;
     let stream = spoiled_stream(&draft, &mut random);
     guarded(|| bench.compare.write(&stream, FILE_LIMIT)).map_err(|why| seeded(seed, &stream, why))?;
+    if seed % CARDS_ONE_IN == 1 {
+        guarded(|| salvage::random::cards(bench, &draft, &mut random))
+            .map_err(|why| seeded(seed, &sealed(&draft.stream()), why))?;
+    }
     Ok(())
 }
 

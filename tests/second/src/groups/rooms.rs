@@ -10,7 +10,7 @@ use crate::random::Random;
 use crate::samples;
 
 /// Lengths of memory to lend where `limit` bytes are needed.
-fn around(limit: usize) -> Vec<usize> {
+pub(super) fn around(limit: usize) -> Vec<usize> {
     let near = limit - 20..=limit + 20;
     [0, 1, 2, 505, 506, 512, limit / 2].into_iter().chain(near).collect()
 }
@@ -43,6 +43,6 @@ pub fn all(bench: &mut Bench) -> Result<usize, String> {
     Ok(count)
 }
 
-fn number_is(short: bool, number: u32) -> Result<(), String> {
+pub(super) fn number_is(short: bool, number: u32) -> Result<(), String> {
     if short == (number == 1) { Ok(()) } else { Err(format!("short memory {short}, number {number}")) }
 }

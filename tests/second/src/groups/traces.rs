@@ -17,7 +17,7 @@ pub fn paper(bench: &mut Bench) -> Result<usize, String> {
     Ok(traces.len())
 }
 
-/// The sample files of examples/, with the reports beside them; one of them is of full size.
+/// The sample files of examples/, with the reports beside them; one of them is of full size. And the spoiled cards, with what comes out.
 pub fn samples(bench: &mut Bench) -> Result<usize, String> {
     let samples = samples::all();
     for (name, draft) in &samples {
@@ -37,8 +37,21 @@ pub fn samples(bench: &mut Bench) -> Result<usize, String> {
             report_is(bench, name, &file, &windows.block(), report.as_bytes())?;
         }
     }
+    for (name, card, job) in samples::cards() {
+        comes_out(bench, &format!("examples/{name}.card"), &card, &format!("examples/{job}.job"))?;
+    }
     let full_size = |(_, draft): &(_, Draft)| sealed(&draft.stream()).len() == FILE_LIMIT;
     if samples.iter().any(full_size) { Ok(samples.len()) } else { Err("no sample is of full size".to_string()) }
+}
+
+/// Whether a spoiled card is this one, and the job is what comes out of it.
+fn comes_out(bench: &mut Bench, name: &str, card: &[u8], job: &str) -> Result<(), String> {
+    let read = |name: &str| fs::read(name).map_err(|error| format!("{name}: {error}"));
+    if read(name)? != card {
+        return Err(format!("{name} is another card: sh tests/second/samples writes it"));
+    }
+    let answer = bench.compare.salvage(card)?;
+    if bench.compare.output(answer) == read(job)? { Ok(()) } else { Err(format!("{job} does not come out of {name}")) }
 }
 
 /// Whether both sides give this report of a file within windows, or none.

@@ -15,19 +15,17 @@ const READINGS_OF_LOST: usize = 3;
 const HUBS: [u8; 4] = [1, 2, 3, 4];
 /// Radio, cell and satellite.
 const UPLINKS: [u8; 3] = [5, 6, 7];
-/// Operations fall due in groups, evenly over the hour.
-const GROUP: usize = 8;
-/// How often each comes to a step when it has an operation due: radio twice as often as cell, and cell twice as often as satellite.
-const TURNS: [u8; 19] = [1, 1, 1, 2, 2, 2, 3, 3, 3, 4, 4, 4, 5, 5, 5, 5, 6, 6, 7];
-/// One step in so many goes to one of them: so few that the operations last the whole hour and come in each other's way.
-const ONE_IN: usize = 10;
+/// Radio comes to a step twice as often as cell, and cell twice as often as satellite. So few steps go to all of them that the operations last
+/// the whole hour and come in each other's way.
+const PACE: Pace =
+    Pace { steps: STEPS, group: 8, turns: &[1, 1, 1, 2, 2, 2, 3, 3, 3, 4, 4, 4, 5, 5, 5, 5, 6, 6, 7], one_in: 10, idle: LOST };
 /// While the crest is near, by operation: hubs read more often.
 const NEAR: Range<usize> = 40..180;
 
 pub fn hour() -> Draft {
     let mut random = Random::new(1936);
     let records: Vec<Record> = (0..OPERATIONS).map(|i| record(i, &mut random)).collect();
-    let schedule = schedule(&records, &mut random);
+    let schedule = PACE.schedule(&records, &mut random);
     Draft { kind: 1, processes: PROCESSES as u8, records, schedule }
 }
 
@@ -53,16 +51,31 @@ fn stage(hub: u8, i: usize, random: &mut Random) -> i16 {
     (900 + 140 * hub + rise + random.below(25)) as i16
 }
 
-fn schedule(records: &[Record], random: &mut Random) -> Vec<u8> {
-    let mut machine = Machine::<Queue>::fresh(records);
-    let mut schedule = vec![];
-    while schedule.len() < STEPS {
-        let due = |operation: u16| (usize::from(operation) - 1) / GROUP * GROUP * STEPS / OPERATIONS <= schedule.len();
-        let has_work = |&process: &u8| machine.standing(process).is_some_and(|(operation, _)| due(operation));
-        let ready: Vec<u8> = TURNS.into_iter().filter(has_work).collect();
-        let process = if ready.is_empty() || !random.chance(ONE_IN) { LOST } else { *random.pick(&ready) };
-        schedule.push(process);
-        machine.step(schedule.len() as u16, process, &mut Nobody);
+/// How a flood goes on: when its operations fall due, and who comes to a step.
+pub(super) struct Pace {
+    pub steps: usize,
+    /// Operations fall due in groups of so many, evenly over the steps.
+    pub group: usize,
+    /// How often each process comes to a step when it has an operation due.
+    pub turns: &'static [u8],
+    /// One step in so many goes to one of them, the others to a process that has soon nothing left to do.
+    pub one_in: usize,
+    pub idle: u8,
+}
+
+impl Pace {
+    pub(super) fn schedule(&self, records: &[Record], random: &mut Random) -> Vec<u8> {
+        let mut machine = Machine::<Queue>::fresh(records);
+        let mut schedule = vec![];
+        while schedule.len() < self.steps {
+            let begins = |operation: u16| (usize::from(operation) - 1) / self.group * self.group * self.steps / records.len();
+            let is_due = |(operation, _)| begins(operation) <= schedule.len();
+            let has_work = |process: &u8| machine.standing(*process).is_some_and(is_due);
+            let ready: Vec<u8> = self.turns.iter().copied().filter(has_work).collect();
+            let process = if ready.is_empty() || !random.chance(self.one_in) { self.idle } else { *random.pick(&ready) };
+            schedule.push(process);
+            machine.step(schedule.len() as u16, process, &mut Nobody);
+        }
+        schedule
     }
-    schedule
 }
