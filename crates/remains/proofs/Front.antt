@@ -16,7 +16,7 @@ use Rattle.job.specs.Kind.{kind-of, is-missing}
 use Rattle.job.specs.Stream.{kind, processes, operations, schedule-length, stream-length}
 use Rattle.job.specs.Refusals.{first-met, outside, exact-count, bad-kind, bad-processes, bad-operations, bad-schedule-length, header-conditions, list-conditions}
 use Rattle.remains.specs.Kept.{records-end, entries-kept, shortened}
-use Rattle.remains.specs.Salvage.{cut-records, kept-conditions}
+use Rattle.remains.specs.Salvage.{cut-records, kept-conditions, kept-refusal}
 
 -- two streams with the same six bytes of header
 pub record Same-header (s t : List ℕ) : Type 0 where
@@ -105,8 +105,8 @@ module _ (s : List ℕ) (k : ℕ) (enough : stream-length s ≤ k) where
       (ap₂ (λ (n e : ℕ). take (4 * n + e) (drop 6 (take k s))) (sym (operations-same same-header)) entries-front
       ∙ front-part 6 (4 * operations s + entries-kept s) k s (omega arith)))
 
-  pub conditions-front : (l : Limits) → kept-conditions l (take k s) ≡ kept-conditions l s
-  unfolding kept-conditions stream-length
-  conditions-front l =
+  pub refusal-front : (l : Limits) → kept-refusal l (take k s) ≡ kept-refusal l s
+  unfolding kept-refusal kept-conditions stream-length
+  refusal-front l =
       let six : 6 ≤ k = omega arith in
-      λ i. (14, front-under s k 6 six i) ∷ sym (header-same same-header l) i ++ (14, cut-front i) ∷ list-conditions (shortened-front i)
+      λ i. first-met ((14, front-under s k 6 six i) ∷ sym (header-same same-header l) i ++ (14, cut-front i) ∷ list-conditions (shortened-front i))

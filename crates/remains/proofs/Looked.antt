@@ -17,10 +17,10 @@ use Rattle.job.specs.File.{block-count, payloads}
 use Rattle.job.proofs.Conditions.{met-front}
 use Rattle.job.proofs.Table.{exact-room}
 use Rattle.remains.specs.Kept.{leading, intact-blocks, intact, kept-blocks, kept, entries-kept, shortened}
-use Rattle.remains.specs.Salvage.{cut-records, kept-conditions, salvage-refusal, kept-entries, named-entries}
+use Rattle.remains.specs.Salvage.{cut-records, kept-conditions, kept-refusal, salvage-refusal, kept-entries, named-entries}
 use Rattle.remains.specs.Looked.{looked}
 use Rattle.remains.proofs.Leading.{leading-le, leading-first, length-full, payloads-first}
-use Rattle.remains.proofs.Front.{Same-header, header-same, header-of-front, front-under, entries-front, named-front, shortened-front, conditions-front}
+use Rattle.remains.proofs.Front.{Same-header, header-same, header-of-front, front-under, entries-front, named-front, shortened-front, refusal-front}
 use Rattle.remains.proofs.Unmet.{all-unmet, header-unmet, stream-small}
 
 -- the intact blocks are full
@@ -40,8 +40,8 @@ module _ (file : List ℕ) where
   wanted-enough : stream-length (intact file) ≤ wanted
   wanted-enough = exact-room (intact file)
 
-  kept-conditions-intact : (l : Limits) → kept-conditions l (kept file) ≡ kept-conditions l (intact file)
-  kept-conditions-intact l = ap (kept-conditions l) kept-front ∙ conditions-front (intact file) wanted wanted-enough l
+  refusal-intact : (l : Limits) → kept-refusal l (kept file) ≡ kept-refusal l (intact file)
+  refusal-intact l = ap (kept-refusal l) kept-front ∙ refusal-front (intact file) wanted wanted-enough l
 
 module _ {l : Limits} (sound : Sound l) (file : List ℕ) where
   abbrev most : ℕ
@@ -56,8 +56,8 @@ module _ {l : Limits} (sound : Sound l) (file : List ℕ) where
   six = omega (arith, sound .stream-fits)
 
   -- a header that asks for more is refused, whatever else is there
-  refused-alike : most < stream-length (intact file) → first-met (kept-conditions l (take most (intact file))) ≡ first-met (kept-conditions l (intact file))
-  unfolding kept-conditions first-met
+  refused-alike : most < stream-length (intact file) → kept-refusal l (take most (intact file)) ≡ kept-refusal l (intact file)
+  unfolding kept-refusal kept-conditions first-met
   refused-alike long =
       let s : List ℕ = intact file in
       let refused : first-met (header-conditions l s) ≢ 0 = λ z. let few : stream-length s ≤ most = stream-small (header-unmet l s z) sound in omega arith in
@@ -68,21 +68,21 @@ module _ {l : Limits} (sound : Sound l) (file : List ℕ) where
       ∙ ap first-met (sym same)
       ∙ met-front (header-conditions l s) ((14, cut-records s) ∷ list-conditions (shortened s)) refused)
 
-  pub refusal-looked : first-met (kept-conditions l (looked l file)) ≡ salvage-refusal l file
+  pub refusal-looked : kept-refusal l (looked l file) ≡ salvage-refusal l file
   unfolding salvage-refusal
   refusal-looked =
-      ap (λ (s : List ℕ). first-met (kept-conditions l s)) looked-front
+      ap (kept-refusal l) looked-front
       ∙ go (compare (stream-length (intact file)) most)
-      ∙ sym (ap first-met (kept-conditions-intact file l))
+      ∙ sym (refusal-intact file l)
     where
-      go : (stream-length (intact file) ≤ most) ⊎ (most < stream-length (intact file)) → first-met (kept-conditions l (take most (intact file))) ≡ first-met (kept-conditions l (intact file))
-      go (inl h) = ap first-met (conditions-front (intact file) most h l)
+      go : (stream-length (intact file) ≤ most) ⊎ (most < stream-length (intact file)) → kept-refusal l (take most (intact file)) ≡ kept-refusal l (intact file)
+      go (inl h) = refusal-front (intact file) most h l
       go (inr h) = refused-alike h
 
   module _ (accepted : salvage-refusal l file ≡ 0) where
     small : stream-length (intact file) ≤ most
     unfolding salvage-refusal
-    small = stream-small (all-unmet l (intact file) (sym (ap first-met (kept-conditions-intact file l)) ∙ accepted) .header) sound
+    small = stream-small (all-unmet l (intact file) (sym (refusal-intact file l) ∙ accepted) .header) sound
 
     pub shortened-looked : shortened (looked l file) ≡ shortened (kept file)
     shortened-looked =

@@ -14,7 +14,7 @@ use Rattle.basics.proofs.Words.{word-bytes-at}
 use Rattle.job.specs.declared.Limits.{Limits}
 use Rattle.job.specs.Limits.{Sound}
 use Rattle.job.specs.Stream.{operations, schedule-length, stream-length}
-use Rattle.job.specs.Refusals.{first-met, exact-count, bad-records, bad-schedule, header-conditions, list-conditions}
+use Rattle.job.specs.Refusals.{exact-count, bad-records, bad-schedule, header-conditions, list-conditions}
 use Rattle.job.specs.File.{block-count, payloads, joined, file-of, file-refusal, stream-of}
 use Rattle.job.proofs.Accepted.{Good-file, accepted-good}
 use Rattle.job.proofs.Blocks.{each-accepted}
@@ -22,7 +22,7 @@ use Rattle.job.proofs.Conditions.{unmet-zero}
 use Rattle.job.proofs.Restored.{restored-file}
 use Rattle.job.proofs.View.{joined-bytes, stream-room, stream-good}
 use Rattle.remains.specs.Kept.{intact-blocks, intact, kept-blocks, kept, records-end, entries-kept, shortened}
-use Rattle.remains.specs.Salvage.{cut-records, kept-conditions, salvage-refusal, salvaged, kept-entries, named-entries}
+use Rattle.remains.specs.Salvage.{cut-records, kept-conditions, kept-refusal, salvage-refusal, salvaged, kept-entries, named-entries}
 use Rattle.remains.specs.Claims.{Undamaged}
 use Rattle.remains.proofs.Leading.{leading-all}
 
@@ -64,13 +64,13 @@ module _ {l : Limits} (sound : Sound l) (file : List ℕ) (h : Bytes file) (acce
   shortened-is = ap shortened kept-joined ∙ itself (joined file) there (joined-bytes file h)
 
   none-met : salvage-refusal l file ≡ 0
-  unfolding salvage-refusal kept-conditions header-conditions list-conditions cut-records records-end stream-length
+  unfolding salvage-refusal kept-refusal kept-conditions header-conditions list-conditions cut-records records-end stream-length
   none-met =
       let s : List ℕ = joined file in
       let f = good .fine in
       let g = stream-good file good .fine in
       let whole : shortened s ≡ stream-of file = sym (ap shortened kept-joined) ∙ shortened-is in
-      ap (λ (x : List ℕ). first-met (kept-conditions l x)) kept-joined
+      ap (kept-refusal l) kept-joined
       ∙ unmet-zero (kept-conditions l s)
       (le-less (omega (arith, there)), (f .kind, (f .processes, (f .operations, (f .steps, (le-less (omega (arith, there)), (ap bad-records whole ∙ g .records, (ap bad-schedule whole ∙ g .schedule, tt))))))))
 

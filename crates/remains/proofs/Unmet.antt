@@ -15,7 +15,7 @@ use Rattle.job.specs.Refusals.{first-met, outside, bad-kind, bad-processes, bad
 use Rattle.job.proofs.Conditions.{zero-unmet, or-both}
 use Rattle.job.proofs.Table.{header-numbered}
 use Rattle.remains.specs.Kept.{records-end, shortened}
-use Rattle.remains.specs.Salvage.{cut-records, kept-conditions}
+use Rattle.remains.specs.Salvage.{cut-records, kept-conditions, kept-refusal}
 
 -- a header in range
 pub record In-range (l : Limits) (s : List ℕ) : Type 0 where
@@ -38,8 +38,8 @@ header-unmet l s e =
     let u = zero-unmet (header-conditions l s) (header-numbered l s) e in
     record { kinds = u .0; process-count = u .1 .0; operation-count = u .1 .1 .0; step-count = u .1 .1 .1 .0 }
 
-pub all-unmet : (l : Limits) (s : List ℕ) → first-met (kept-conditions l s) ≡ 0 → Remains l s
-unfolding kept-conditions header-conditions list-conditions cut-records
+pub all-unmet : (l : Limits) (s : List ℕ) → kept-refusal l s ≡ 0 → Remains l s
+unfolding kept-refusal kept-conditions header-conditions list-conditions cut-records
 all-unmet l s e =
     let u = zero-unmet (kept-conditions l s) (omega arith, (omega arith, (omega arith, (omega arith, (omega arith, (omega arith, (omega arith, (omega arith, tt)))))))) e in
     let h = u .1 in

@@ -17,7 +17,7 @@ use Rattle.job.specs.File.{zeros, block-at, block-count, payloads, blocks, padd
 use Rattle.job.specs.Examples.{put, joined-records, header, stream}
 use Rattle.job.specs.TurnedBack.{holding, damaged, good}
 use Rattle.remains.specs.Kept.{leading, intact-blocks, intact, kept-blocks, kept, records-end, entries-kept, shortened}
-use Rattle.remains.specs.Salvage.{cut-records, kept-conditions, salvage-refusal, salvaged, kept-entries, named-entries}
+use Rattle.remains.specs.Salvage.{cut-records, kept-conditions, kept-refusal, salvage-refusal, salvaged, kept-entries, named-entries}
 
 -- what comes of a file: the number; A, B and the file, of a refused one nothing
 pub record Outcome : Type 0 where
@@ -94,5 +94,5 @@ rows =
     ∷ []
 
 pub rows-proved : map (λ r. outcome (r .file)) rows ≡ map (λ r. r .expected) rows
-unfolding refused kept-of outcome long with-block rows put joined-records header stream holding damaged good pick same less at word word-bytes block-size payload-size summed-size add-byte add-bytes sums block payload-of sum-differs misplaced block-refusal kind-number kinds look-up kind-of is-missing kind processes operations schedule-length record-at process action value scheduled stream-length first-met any outside bad-kind bad-processes bad-operations bad-schedule-length exact-count bad-record bad-records bad-entry bad-schedule header-conditions list-conditions slot-of process-of zeros block-at block-count payloads blocks padded file-of leading intact-blocks intact kept-blocks kept records-end entries-kept shortened cut-records kept-conditions salvage-refusal salvaged kept-entries named-entries Rattle.job.specs.Examples.take
+unfolding refused kept-of outcome long with-block rows put joined-records header stream holding damaged good pick same less at word word-bytes block-size payload-size summed-size add-byte add-bytes sums block payload-of sum-differs misplaced block-refusal kind-number kinds look-up kind-of is-missing kind processes operations schedule-length record-at process action value scheduled stream-length first-met any outside bad-kind bad-processes bad-operations bad-schedule-length exact-count bad-record bad-records bad-entry bad-schedule header-conditions list-conditions slot-of process-of zeros block-at block-count payloads blocks padded file-of leading intact-blocks intact kept-blocks kept records-end entries-kept shortened cut-records kept-conditions kept-refusal salvage-refusal salvaged kept-entries named-entries Rattle.job.specs.Examples.take
 rows-proved = refl

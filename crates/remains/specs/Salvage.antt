@@ -21,9 +21,13 @@ cut-records s = less (length s) (records-end s)
 unfoldable pub kept-conditions : Limits → List ℕ → List (ℕ × Bool)
 kept-conditions l s = (14, no-header s) ∷ header-conditions l s ++ (14, cut-records s) ∷ list-conditions (shortened s)
 
+-- the number of what is kept, 0 where none of these is met
+unfoldable pub kept-refusal : Limits → List ℕ → ℕ
+kept-refusal l s = first-met (kept-conditions l s)
+
 -- the number of a file, 0 where something remains of it
 unfoldable pub salvage-refusal : Limits → List ℕ → ℕ
-salvage-refusal l file = first-met (kept-conditions l (kept file))
+salvage-refusal l file = kept-refusal l (kept file)
 
 -- the "proper file" that is written
 unfoldable pub salvaged : List ℕ → List ℕ

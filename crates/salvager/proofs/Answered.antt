@@ -19,7 +19,7 @@ use Rattle.job.specs.File.{zeros, file-of, file-refusal, stream-of, zeros-behin
 use Rattle.job.specs.Job.{job-of}
 use Rattle.job.specs.Calls.{small-work, held, write-number, write-length, write-out}
 use Rattle.remains.specs.Kept.{kept, entries-kept, shortened}
-use Rattle.remains.specs.Salvage.{salvage-refusal, salvaged, kept-entries, named-entries, small-room, salvage-number, counted, salvage-length, salvage-out, salvage-work}
+use Rattle.remains.specs.Salvage.{kept-refusal, salvage-refusal, salvaged, kept-entries, named-entries, small-room, salvage-number, counted, salvage-length, salvage-out, salvage-work}
 use Rattle.remains.specs.Looked.{looked}
 use Rattle.remains.specs.Claims.{Undamaged, Proper, Blocks-of}
 use Rattle.theory.specs.Short.{KeptRun}
@@ -28,7 +28,7 @@ use Rattle.remains.proofs.Proper.{proper}
 use Rattle.remains.proofs.Answers.{answers-kept}
 use Rattle.remains.proofs.Looked.{refusal-looked, shortened-looked, entries-looked, named-looked}
 use Rattle.salvager.specs.declared.SalvageReply.{SalvageReply}
-use Rattle.salvager.specs.Saved.{stream-number, accepted-or, Saved}
+use Rattle.salvager.specs.Saved.{accepted-or, Saved}
 
 -- equal numbers choose alike
 alike : {A : Type 0} (m n : ℕ) (x y z : A) → m ≡ n → (n ≡ 0 → x ≡ y) → pick (same m 0) x z ≡ pick (same n 0) y z
@@ -39,10 +39,10 @@ alike m n x y z e same-value = ap (λ (k : ℕ). pick (same k 0) x z) e ∙ go (
     go (inr t) = pick-else x z t ∙ sym (pick-else y z t)
 
 -- a stream that is refused
-pub refused-saved : (l : Limits) (s out : List ℕ) (r : SalvageReply) {n : ℕ} → n ≡ stream-number l s → n ≢ 0 → (r .number ≡ n) × (r .length ≡ 0) × (r .kept ≡ 0) × (r .named ≡ 0) → Saved l s out out r
+pub refused-saved : (l : Limits) (s out : List ℕ) (r : SalvageReply) {n : ℕ} → n ≡ kept-refusal l s → n ≢ 0 → (r .number ≡ n) × (r .length ≡ 0) × (r .kept ≡ 0) × (r .named ≡ 0) → Saved l s out out r
 unfolding accepted-or
 refused-saved l s out r {n} e refused told =
-    let not-zero : same (stream-number l s) 0 ≡ false = unequal-same (λ z. refused (e ∙ z)) in
+    let not-zero : same (kept-refusal l s) 0 ≡ false = unequal-same (λ z. refused (e ∙ z)) in
     record {
       number = told .0 ∙ e;
       size = told .1 ∙ sym (pick-else _ _ not-zero);
@@ -52,14 +52,14 @@ refused-saved l s out r {n} e refused told =
     }
 
 -- a stream whose shortened one a write took or refused
-pub written-saved : (l : Limits) (s before after : List ℕ) (w : Reply) (r : SalvageReply) {count named : ℕ} → write-number l (shortened s) before ≡ stream-number l s
+pub written-saved : (l : Limits) (s before after : List ℕ) (w : Reply) (r : SalvageReply) {count named : ℕ} → write-number l (shortened s) before ≡ kept-refusal l s
     → (w .number ≡ write-number l (shortened s) before) × (w .length ≡ write-length l (shortened s) before) × (after ≡ write-out l (shortened s) before)
     → count ≡ entries-kept s → named ≡ schedule-length s
     → (r .number ≡ w .number) × (r .length ≡ w .length) × (r .kept ≡ pick (same (w .number) 0) count 0) × (r .named ≡ pick (same (w .number) 0) named 0)
     → Saved l s before after r
 unfolding accepted-or write-length write-out
 written-saved l s before after w r e done count named told =
-    let number : w .number ≡ stream-number l s = done .0 ∙ e in
+    let number : w .number ≡ kept-refusal l s = done .0 ∙ e in
     record {
       number = told .0 ∙ number;
       size = told .1 ∙ done .1 ∙ alike _ _ _ _ 0 e (λ z. refl);
@@ -120,10 +120,10 @@ small-out-room l work out h = simp (lt-less h, or-true)
 -- both are large enough: what the leading blocks give, and a clear work memory
 pub large-told : {l : Limits} → Sound l → (file work out work′ out′ : List ℕ) (r : SalvageReply) → most-stream l ≤ length work → most-file l ≤ length out
     → work′ ≡ zeros (most-stream l) ++ drop (most-stream l) work → Saved l (looked l file) out out′ r → Told l file work out work′ out′ r
-unfolding salvage-length salvage-out salvage-work counted salvage-number small-room small-work held zeros-behind accepted-or stream-number salvaged
+unfolding salvage-length salvage-out salvage-work counted salvage-number small-room small-work held zeros-behind accepted-or salvaged
 large-told {l} sound file work out work′ out′ r room large cleared s =
     let free : small-room l work out ≡ false = simp (le-less room, le-less large) in
-    let number : stream-number l (looked l file) ≡ salvage-number l file work out = refusal-looked sound file ∙ sym (pick-else _ _ free) in
+    let number : kept-refusal l (looked l file) ≡ salvage-number l file work out = refusal-looked sound file ∙ sym (pick-else _ _ free) in
     let accepted : salvage-number l file work out ≡ 0 → salvage-refusal l file ≡ 0 = λ z. sym (pick-else _ _ free) ∙ z in
     let files : salvage-number l file work out ≡ 0 → file-of (shortened (looked l file)) ≡ salvaged file = λ z. ap file-of (shortened-looked sound file (accepted z)) in
     let clear : zeros (most-stream l) ++ drop (most-stream l) work ≡ salvage-work l work out = ap (λ (n : ℕ). zeros n ++ drop (most-stream l) work) (sym (sub-zero (most-stream l))) ∙ sym (pick-else _ _ free) in (

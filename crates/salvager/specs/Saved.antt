@@ -7,22 +7,17 @@ use Rattle.basics.specs.Choice.{pick, same}
 use Rattle.memory.specs.Over.{over}
 use Rattle.job.specs.declared.Limits.{Limits}
 use Rattle.job.specs.Stream.{schedule-length}
-use Rattle.job.specs.Refusals.{first-met}
 use Rattle.job.specs.File.{file-of}
 use Rattle.remains.specs.Kept.{entries-kept, shortened}
-use Rattle.remains.specs.Salvage.{kept-conditions}
+use Rattle.remains.specs.Salvage.{kept-refusal}
 use Rattle.salvager.specs.declared.SalvageReply.{SalvageReply}
-
--- the number of a stream
-unfoldable pub stream-number : Limits → List ℕ → ℕ
-stream-number l s = first-met (kept-conditions l s)
 
 -- a value of a stream that is accepted, another of one that is refused
 unfoldable pub accepted-or : {A : Type 0} → Limits → List ℕ → A → A → A
-accepted-or l s value other = pick (same (stream-number l s) 0) value other
+accepted-or l s value other = pick (same (kept-refusal l s) 0) value other
 
 pub record Saved (l : Limits) (s before after : List ℕ) (r : SalvageReply) : Type 0 where
-  pub number : r .number ≡ stream-number l s
+  pub number : r .number ≡ kept-refusal l s
   pub size : r .length ≡ accepted-or l s (length (file-of (shortened s))) 0
   pub kept : r .kept ≡ accepted-or l s (entries-kept s) 0
   pub named : r .named ≡ accepted-or l s (schedule-length s) 0

@@ -8,7 +8,8 @@ use Rattle.job.specs.Calls.{write-number, write-length, write-out}
 use Rattle.remains.specs.Kept.{records-end, entries-kept}
 use Rattle.remains.proofs.Proper.{few-kept}
 use Rattle.salvager.proofs.InPlace.{end-within}
-use Rattle.salvager.proofs.Decided.{short-decides, header-decides, in-range, records-decide, write-decides}
+use Rattle.remains.proofs.Order.{short-decides, header-decides, records-decide}
+use Rattle.salvager.proofs.Decided.{in-range, write-decides}
 use Rattle.salvager.proofs.Answered.{refused-saved, written-saved}
 use borrow.Author.Needs.{needs}
 use native.Mathlib.Omega.{arith}
@@ -53,7 +54,7 @@ cast-with-counts c =
     let p = first .before .before .before .args in
     let sound = first .before .before .before .pre .0 in
     let few : entries-kept (p .s .now) ≤ p .limits .steps =
-    few-kept sound (p .s .now) (in-range (p .limits) (p .s .now) (first .if1 .left) (third .before .before .before .before .header .ensures) (third .before .before .before .if2 .left)) (omega (arith, third .if3 .left, third .before .records-end .ensures))
+    few-kept sound (p .s .now) (in-range (p .limits) (p .s .now) (third .before .before .before .before .header .ensures) (third .before .before .before .if2 .left)) (omega (arith, third .if3 .left, third .before .records-end .ensures))
     in
     record { fits = omega (arith, few, sound .cells, c .before .before .before .before .before .before .before .shorten .ensures .0, third .before .records-end .ensures) }
 
@@ -69,7 +70,7 @@ returns-4 c =
     let whole : records-end s ≤ length s = omega (arith, third .if3 .left, third .before .records-end .ensures) in
     let stream = c .before .before .before .before .before .before .before .before .shorten .ensures .1 in
     written-saved l s out (w .last .1 .1 .0) (w .result) (c .with-counts .result)
-    (write-decides l s (first .if1 .left) (third .before .before .before .before .header .ensures) (third .before .before .before .if2 .left) (first .before .before .before .pre .0) whole out (first .before .before .before .pre .1))
+    (write-decides l s (third .before .before .before .before .header .ensures) (third .before .before .before .if2 .left) (first .before .before .before .pre .0) (first .if1 .left) whole out (first .before .before .before .pre .1))
     (w .ensures .0 ∙ ap (λ (x : List ℕ). write-number l x out) stream, w .ensures .1 .0 ∙ ap (λ (x : List ℕ). write-length l x out) stream, w .ensures .1 .1 ∙ ap (λ (x : List ℕ). write-out l x out) stream)
     (omega (arith, c .before .before .before .before .before .before .before .before .shorten .ensures .0, third .before .records-end .ensures))
     (c .before .before .before .before .before .before .before .before .before .before .schedule-length .ensures)
