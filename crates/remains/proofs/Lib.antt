@@ -1,10 +1,10 @@
 -- Laws of what is kept, and the claims.
 pub mod Leading
-pub mod Order
+pub mod Conditions
 pub mod Unmet
-pub mod Shortened
+pub mod AllButCount
 pub mod Front
 pub mod Looked
 pub mod Undamaged
 pub mod Proper
-pub mod Answers
+pub mod SameAnswers

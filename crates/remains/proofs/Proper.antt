@@ -18,7 +18,7 @@ use Rattle.job.proofs.Written.{written-accepted, written-stream}
 use Rattle.remains.specs.Kept.{kept, records-end, entries-kept, shortened}
 use Rattle.remains.specs.Salvage.{salvage-refusal, salvaged, kept-entries}
 use Rattle.remains.specs.Claims.{First-entries, Proper}
-use Rattle.remains.proofs.Shortened.{Same-but-count, kind-kept, processes-kept, operations-kept, first-entries, length-shortened, same-but-count}
+use Rattle.remains.proofs.AllButCount.{Same-but-count, kind-kept, processes-kept, operations-kept, first-entries, length-shortened, same-but-count}
 use Rattle.remains.proofs.Unmet.{In-range, Remains, all-unmet, few-steps}
 
 -- a header in range, with all its records

@@ -25,7 +25,7 @@ use Rattle.remains.specs.Claims.{Undamaged, Proper, Blocks-of}
 use Rattle.theory.specs.Short.{KeptRun}
 use Rattle.remains.proofs.Undamaged.{undamaged}
 use Rattle.remains.proofs.Proper.{proper}
-use Rattle.remains.proofs.Answers.{answers-kept}
+use Rattle.remains.proofs.SameAnswers.{answers-kept}
 use Rattle.remains.proofs.Looked.{refusal-looked, shortened-looked, entries-looked, named-looked}
 use Rattle.salvager.specs.declared.SalvageReply.{SalvageReply}
 use Rattle.salvager.specs.Saved.{accepted-or, Saved}

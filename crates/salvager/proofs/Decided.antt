@@ -17,7 +17,7 @@ use Rattle.job.proofs.Table.{header-numbered}
 use Rattle.remains.specs.Kept.{records-end, shortened}
 use Rattle.remains.specs.Salvage.{kept-refusal}
 use Rattle.remains.proofs.Unmet.{In-range, header-unmet}
-use Rattle.remains.proofs.Order.{lists-decide}
+use Rattle.remains.proofs.Conditions.{lists-decide}
 use Rattle.remains.proofs.Proper.{shortened-range, shortened-size}
 
 module _ (l : Limits) (s : List ℕ) {h : ℕ} (e : h ≡ first-met (header-conditions l s)) (fine : h ≡ 0) where

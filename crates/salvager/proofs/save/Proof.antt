@@ -8,7 +8,7 @@ use Rattle.job.specs.Calls.{write-number, write-length, write-out}
 use Rattle.remains.specs.Kept.{records-end, entries-kept}
 use Rattle.remains.proofs.Proper.{few-kept}
 use Rattle.salvager.proofs.InPlace.{end-within}
-use Rattle.remains.proofs.Order.{short-decides, header-decides, records-decide}
+use Rattle.remains.proofs.Conditions.{short-decides, header-decides, records-decide}
 use Rattle.salvager.proofs.Decided.{in-range, write-decides}
 use Rattle.salvager.proofs.Answered.{refused-saved, written-saved}
 use borrow.Author.Needs.{needs}

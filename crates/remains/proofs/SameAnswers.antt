@@ -34,7 +34,7 @@ use Rattle.remains.specs.Claims.{Blocks-of}
 use Rattle.remains.proofs.Leading.{payloads-first, payloads-same, length-full}
 use Rattle.remains.proofs.Front.{Same-header, header-of-front, operations-same, steps-same, exact-same}
 use Rattle.remains.proofs.Looked.{intact-full, kept-front}
-use Rattle.remains.proofs.Shortened.{Same-but-count, kind-kept, operations-kept, first-entries}
+use Rattle.remains.proofs.AllButCount.{Same-but-count, kind-kept, operations-kept, first-entries}
 use Rattle.remains.proofs.Unmet.{Remains}
 use Rattle.remains.proofs.Proper.{remains, kept-but-count, stream-salvaged}
 
