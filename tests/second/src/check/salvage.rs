@@ -34,9 +34,13 @@ pub fn kept(input: &[u8]) -> Result<Kept, u32> {
     }
     let byte = |index: usize| byte(input, index);
     let (kind, processes, operations, of) = (byte(0), byte(1), byte(2) * 256 + byte(3), byte(4) * 256 + byte(5));
-    let header = [(5, (1..=3).contains(&kind)), (6, (1..=8).contains(&processes))];
-    let counts = [(7, (1..=256).contains(&operations)), (8, of <= 16_384)];
-    if let Some((number, _)) = header.iter().chain(&counts).find(|(_, in_range)| !in_range) {
+    let ranges = [
+        (5, (1..=3).contains(&kind)),
+        (6, (1..=8).contains(&processes)),
+        (7, (1..=256).contains(&operations)),
+        (8, of <= 16_384),
+    ];
+    if let Some((number, _)) = ranges.iter().find(|(_, in_range)| !in_range) {
         return Err(*number);
     }
     let front = 6 + 4 * operations;
