@@ -1,5 +1,6 @@
 //! The tables of proved traces, read from the definitions' own files: each `job = stream KIND P (OPERATIONS) (SCHEDULE);` with the
-//! `expected = "REPORT";` behind it, and between the two, in the table of windows, `windows = windows YEAR MONTH DAY SECOND (ENTRIES);`.
+//! `expected = "REPORT";` behind it, and between the two, in the table of windows, `windows = windows YEAR MONTH DAY SECOND (ENTRIES);`,
+//! in that of jobs cut short, `kept = ENTRIES;`, and there at the end `remains = "REPORT";`.
 
 use crate::calendar::Date;
 use crate::generate::windows::SHUT;
@@ -11,6 +12,7 @@ use std::fs;
 /// The files, from the repository's root.
 const TRACES: &str = "crates/wording/specs/Traces.antt";
 const WINDOW_TRACES: &str = "crates/wording/specs/WindowTraces.antt";
+const CUT_TRACES: &str = "crates/wording/specs/CutTraces.antt";
 
 /// A job, its windows, and the report that is proved to be its own.
 pub struct Proved {
@@ -20,20 +22,33 @@ pub struct Proved {
     pub expected: String,
 }
 
+/// A job, how many of its entries are kept, its report, and that of what is kept.
+pub struct ProvedCut {
+    pub draft: Draft,
+    pub kept: usize,
+    pub expected: String,
+    pub remains: String,
+}
+
 /// All traces of the table, in its order.
 pub fn traces() -> Result<Vec<Proved>, String> {
-    table(TRACES)
+    table(TRACES, trace)
 }
 
 /// All traces of the table of windows, in its order.
 pub fn window_traces() -> Result<Vec<Proved>, String> {
-    table(WINDOW_TRACES)
+    table(WINDOW_TRACES, trace)
 }
 
-fn table(path: &str) -> Result<Vec<Proved>, String> {
+/// All traces of the table of jobs cut short, in its order.
+pub fn cut_traces() -> Result<Vec<ProvedCut>, String> {
+    table(CUT_TRACES, cut_trace)
+}
+
+fn table<T>(path: &str, row: fn(&str) -> Option<T>) -> Result<Vec<T>, String> {
     let text = fs::read_to_string(path).map_err(|error| format!("{path}: {error}"))?;
     let read =
-        |from: &str| trace(from).ok_or_else(|| format!("{path}: cannot be read: job ={}", from.lines().next().unwrap_or("")));
+        |from: &str| row(from).ok_or_else(|| format!("{path}: cannot be read: job ={}", from.lines().next().unwrap_or("")));
     text.split("job =").skip(1).map(read).collect()
 }
 
@@ -44,8 +59,24 @@ fn trace(from: &str) -> Option<Proved> {
         Some(from) => from.split_once(';').and_then(|(text, behind)| Some((windows(text)?.block().to_vec(), behind)))?,
         None => (vec![], behind),
     };
-    let (report, _) = behind.trim_start().strip_prefix("expected = \"")?.split_once("\";")?;
-    Some(Proved { draft: draft(job)?, windows, expected: report.replace("\\n", "\n") })
+    let (expected, _) = report(behind, "expected")?;
+    Some(Proved { draft: draft(job)?, windows, expected })
+}
+
+/// A trace of a job cut short, from the text behind its `job =`.
+fn cut_trace(from: &str) -> Option<ProvedCut> {
+    let (job, behind) = from.split_once(';')?;
+    let (kept, behind) = behind.trim_start().strip_prefix("kept = ")?.split_once(';')?;
+    let (expected, behind) = report(behind, "expected")?;
+    let (remains, _) = report(behind, "remains")?;
+    Some(ProvedCut { draft: draft(job)?, kept: kept.parse().ok()?, expected, remains })
+}
+
+/// The report under a name, and the text behind it.
+fn report<'a>(from: &'a str, name: &str) -> Option<(String, &'a str)> {
+    let quoted = from.trim_start().strip_prefix(name)?.strip_prefix(" = \"")?;
+    let (report, behind) = quoted.split_once("\";")?;
+    Some((report.replace("\\n", "\n"), behind))
 }
 
 /// Both lists end in `[]`, so the brackets around them say nothing more.

@@ -64,6 +64,7 @@ fn transmission_windows(bench: &mut Bench) {
 
 fn cut_files(bench: &mut Bench) {
     bench.group("salvage, reports by hand", salvage::traces::by_hand);
+    bench.group("salvage, the proved reports", salvage::traces::proved);
     bench.group("salvage, the sample", salvage::counted::sample);
     bench.group("salvage, entries counted by hand", salvage::counted::by_hand);
     bench.group("salvage that is wrong", salvage::traces::checks);

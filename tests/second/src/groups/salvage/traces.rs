@@ -11,6 +11,7 @@ use crate::generate::{Draft, put, take};
 use crate::groups::Bench;
 use crate::groups::traces::report_is;
 use crate::job::{DROP, Record};
+use crate::proved;
 
 const KEPT: usize = 488;
 /// A process without operations.
@@ -177,6 +178,19 @@ fn dropped() -> Trace {
 
 fn traces() -> [Trace; 5] {
     [queue(), stack(), linked(), gone(), dropped()]
+}
+
+/// The table of proved traces of jobs cut short: the reports of the whole job and of its first entries.
+pub fn proved(bench: &mut Bench) -> Result<usize, String> {
+    let traces = proved::cut_traces()?;
+    for (trace, number) in traces.iter().zip(1..) {
+        let mut cut = trace.draft.clone();
+        cut.schedule.truncate(trace.kept);
+        for (draft, report) in [(&trace.draft, &trace.expected), (&cut, &trace.remains)] {
+            report_is(bench, &format!("cut trace {number}"), &sealed(&draft.stream()), &[], report.as_bytes())?;
+        }
+    }
+    Ok(traces.len())
 }
 
 /// The second block spoiled, and not there: both sides keep 488 entries and give the report of them.
