@@ -25,7 +25,7 @@ module _ (l : Limits) (s : List ℕ) where
   -- 14 of the header, before all others
   pub short-decides : length s < 6 → 14 ≡ kept-refusal l s
   unfolding kept-refusal kept-conditions
-  short-decides h = met-here 14 (from-header l s) (lt-less h)
+  short-decides h = met-here 14 _ (lt-less h)
 
   past-short : {r : ℕ} → 6 ≤ length s → r ≡ first-met (from-header l s) → r ≡ kept-refusal l s
   unfolding kept-refusal kept-conditions
