@@ -1,21 +1,14 @@
 -- A stream whose schedule is shortened: every byte of its header and records but the count of entries, and each entry that is kept, is as it was. Assumes nothing.
-use mathlib.Core.Path.{_≡_, sym, ap, ap₂, fun-ext, _∙_}
-use mathlib.Core.Logic.{_⊎_, inl, inr}
-use Prim.Native.Nat.{ℕ, suc, _+_, _-_, _*_, _≤_, _<_, min}
+use mathlib.Core.Path.{_≡_, ap, ap₂, _∙_}
+use Prim.Native.Nat.{ℕ, suc, _+_, _-_, _*_, _≤_, _<_}
 use native.Mathlib.Omega.{arith}
-use mathlib.Core.Bool.{false}
 use mathlib.Core.List.{List, _++_}
 use lib.ListN.{length, take, drop, getD, length-append, length-drop, List·getD-append}
 use lib.Seq.{length-take-le, getD-take, getD-drop, getD-append-add}
-use Rattle.basics.specs.Choice.{pick, same, less}
 use Rattle.basics.specs.Maps.{at}
 use Rattle.basics.specs.Words.{word, word-bytes}
-use Rattle.basics.proofs.Choice.{compare, pick-then, pick-else, lt-less, le-less}
 use Rattle.basics.proofs.Words.{word-read}
-use Rattle.job.specs.Kind.{kind-of, kind-found}
-use Rattle.job.specs.Slot.{slot-of}
-use Rattle.job.specs.Stream.{kind, processes, operations, schedule-length, record-at, process, action, value, scheduled, stream-length}
-use Rattle.job.specs.Job.{recorded, job-of}
+use Rattle.job.specs.Stream.{kind, processes, operations, schedule-length, record-at, process, action, value, scheduled}
 use Rattle.remains.specs.Kept.{records-end, entries-kept, shortened}
 use Rattle.remains.specs.Claims.{First-entries}
 

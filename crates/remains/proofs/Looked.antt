@@ -1,12 +1,12 @@
 -- Of the leading blocks it is enough to look at as many as a file may have: the same is kept of them as of all. Assumes nothing.
-use mathlib.Core.Path.{_≡_, refl, sym, ap, ap₂, subst, _∙_}
+use mathlib.Core.Path.{_≡_, sym, ap, ap₂, _∙_}
 use mathlib.Core.Logic.{_≢_, _⊎_, inl, inr}
-use Prim.Native.Nat.{ℕ, _*_, _/_, _≤_, _<_, min}
+use Prim.Native.Nat.{ℕ, _*_, _/_, _≤_, _<_}
 use native.Mathlib.Omega.{arith}
 use mathlib.Core.Bool.{Bool}
-use mathlib.Core.List.{List, _∷_, _++_}
+use mathlib.Core.List.{List, _∷_}
 use lib.ListN.{length, take}
-use Rattle.basics.specs.Choice.{pick, less}
+use Rattle.basics.specs.Choice.{pick}
 use Rattle.basics.proofs.Choice.{compare}
 use Rattle.block.specs.Block.{block-size, payload-size}
 use Rattle.job.specs.declared.Limits.{Limits}
@@ -16,11 +16,11 @@ use Rattle.job.specs.Refusals.{first-met, exact-count, header-conditions, list-
 use Rattle.job.specs.File.{block-count, payloads}
 use Rattle.job.proofs.Conditions.{met-front}
 use Rattle.job.proofs.Table.{exact-room}
-use Rattle.remains.specs.Kept.{leading, intact-blocks, intact, kept-blocks, kept, entries-kept, shortened}
+use Rattle.remains.specs.Kept.{intact-blocks, intact, kept-blocks, kept, entries-kept, shortened}
 use Rattle.remains.specs.Salvage.{cut-records, kept-conditions, kept-refusal, salvage-refusal, kept-entries, named-entries}
 use Rattle.remains.specs.Looked.{looked}
-use Rattle.remains.proofs.Leading.{leading-le, leading-first, length-full, payloads-first}
-use Rattle.remains.proofs.Front.{Same-header, header-same, header-of-front, front-under, entries-front, named-front, shortened-front, refusal-front}
+use Rattle.remains.proofs.Leading.{leading-le, leading-first, payloads-first}
+use Rattle.remains.proofs.Front.{header-same, header-of-front, front-under, entries-front, named-front, shortened-front, refusal-front}
 use Rattle.remains.proofs.Unmet.{all-unmet, header-unmet, stream-small}
 
 -- the intact blocks are full

@@ -1,17 +1,17 @@
 -- What comes out is a proper file: it is accepted, and holds the header, the records and the entries kept. Assumes nothing.
 use mathlib.Core.Path.{_≡_, sym, ap, subst, _∙_}
-use Prim.Native.Nat.{ℕ, _+_, _*_, _≤_, _<_, min}
+use Prim.Native.Nat.{ℕ, _+_, _*_, _≤_}
 use native.Mathlib.Omega.{arith}
 use mathlib.Core.List.{List}
 use lib.ListN.{length, length-replicate}
 use Rattle.basics.specs.Choice.{less}
 use Rattle.basics.proofs.Choice.{le-less}
 use Rattle.job.specs.declared.Limits.{Limits}
-use Rattle.job.specs.Limits.{field, most-file, Sound}
+use Rattle.job.specs.Limits.{most-file, Sound}
 use Rattle.job.specs.Kind.{kind-of, is-missing}
-use Rattle.job.specs.Stream.{operations, schedule-length, stream-length}
+use Rattle.job.specs.Stream.{operations, stream-length}
 use Rattle.job.specs.Refusals.{outside, bad-kind, bad-processes, bad-operations, bad-schedule-length}
-use Rattle.job.specs.File.{zeros, file-of, file-refusal, stream-of}
+use Rattle.job.specs.File.{zeros, stream-of}
 use Rattle.job.specs.Calls.{write-number}
 use Rattle.job.proofs.Accepted.{Good-stream, good-written}
 use Rattle.job.proofs.Written.{written-accepted, written-stream}

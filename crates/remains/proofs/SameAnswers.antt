@@ -1,14 +1,14 @@
 -- "Where the kept blocks are those of the undamaged file, operations that ended in the kept steps have the answers of the undamaged job": the job that comes
 -- out is the undamaged one cut short. Assumes nothing.
-use mathlib.Core.Path.{_≡_, sym, ap, ap₂, subst, fun-ext, _∙_}
+use mathlib.Core.Path.{_≡_, sym, ap, subst, fun-ext, _∙_}
 use mathlib.Core.Logic.{_⊎_, inl, inr}
 use Prim.Native.Nat.{ℕ, zero, suc, _+_, _*_, _≤_, _<_, min}
 use native.Mathlib.Omega.{arith}
-use mathlib.Core.Bool.{Bool, false}
+use mathlib.Core.Bool.{false}
 use mathlib.Core.List.{List}
 use lib.ListN.{length, take, List·getD-append}
 use lib.Seq.{getD-take}
-use Rattle.basics.specs.Choice.{pick, same, less}
+use Rattle.basics.specs.Choice.{same}
 use Rattle.basics.specs.Maps.{at}
 use Rattle.basics.proofs.Choice.{compare, pick-then, pick-else, lt-less, le-less}
 use Rattle.block.specs.Block.{block-size, payload-size, payload-of}
@@ -17,7 +17,7 @@ use Rattle.job.specs.declared.Limits.{Limits}
 use Rattle.job.specs.Limits.{Sound}
 use Rattle.job.specs.Kind.{kind-of, kind-found}
 use Rattle.job.specs.Slot.{slot-of}
-use Rattle.job.specs.Stream.{operations, schedule-length, record-at, process, action, scheduled, stream-length}
+use Rattle.job.specs.Stream.{operations, schedule-length, record-at, process, action, stream-length}
 use Rattle.job.specs.Refusals.{exact-count}
 use Rattle.job.specs.File.{block-at, block-count, payloads, joined, file-refusal, stream-of}
 use Rattle.job.specs.Job.{recorded, job-of}
@@ -25,17 +25,16 @@ use Rattle.job.proofs.Accepted.{Good-file, accepted-good}
 use Rattle.job.proofs.Alike.{stream-length-alike}
 use Rattle.job.proofs.Blocks.{length-block-at}
 use Rattle.job.proofs.Table.{exact-room}
-use Rattle.job.proofs.View.{stream-alike, stream-room}
+use Rattle.job.proofs.View.{stream-alike}
 use Rattle.theory.specs.Short.{CutShort, KeptRun}
 use Rattle.theory.proofs.Short.{kept-run}
-use Rattle.remains.specs.Kept.{intact-blocks, intact, kept-blocks, kept, records-end, entries-kept, shortened}
+use Rattle.remains.specs.Kept.{intact, kept-blocks, kept, records-end, entries-kept, shortened}
 use Rattle.remains.specs.Salvage.{salvage-refusal, salvaged}
 use Rattle.remains.specs.Claims.{Blocks-of}
 use Rattle.remains.proofs.Leading.{payloads-first, payloads-same, length-full}
 use Rattle.remains.proofs.Front.{Same-header, header-of-front, operations-same, steps-same, exact-same}
 use Rattle.remains.proofs.Looked.{intact-full, kept-front}
 use Rattle.remains.proofs.AllButCount.{Same-but-count, kind-kept, operations-kept, first-entries}
-use Rattle.remains.proofs.Unmet.{Remains}
 use Rattle.remains.proofs.Proper.{remains, kept-but-count, stream-salvaged}
 
 -- a stream with another's bytes up to its `n`-th entry has its job, cut short

@@ -2,13 +2,11 @@
 use mathlib.Core.Path.{_≡_, sym, ap, ap₂, _∙_}
 use Prim.Native.Nat.{ℕ, _+_, _-_, _*_, _≤_, min}
 use native.Mathlib.Omega.{arith}
-use mathlib.Core.Bool.{false}
-use mathlib.Core.List.{List, _∷_, _++_}
+use mathlib.Core.List.{List, _++_}
 use lib.ListN.{length, take, drop}
 use lib.Seq.{take-add, drop-drop}
 use Rattle.basics.specs.Bytes.{Bytes}
-use Rattle.basics.specs.Choice.{less}
-use Rattle.basics.specs.Words.{word, word-bytes}
+use Rattle.basics.specs.Words.{word-bytes}
 use Rattle.basics.proofs.Choice.{le-less}
 use Rattle.basics.proofs.Words.{word-bytes-at}
 use Rattle.job.specs.declared.Limits.{Limits}

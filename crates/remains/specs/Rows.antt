@@ -3,7 +3,7 @@
 use mathlib.Core.Path.{_≡_, refl}
 use Prim.Native.Nat.{ℕ, suc, _-_, _*_}
 use mathlib.Core.List.{List, [], _∷_, _++_, map}
-use lib.ListN.{length, take, drop, set, replicate}
+use lib.ListN.{take, drop, replicate}
 use Rattle.basics.specs.Choice.{pick, same, less}
 use Rattle.basics.specs.Maps.{at}
 use Rattle.basics.specs.Words.{word, word-bytes}

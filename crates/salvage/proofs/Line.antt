@@ -2,7 +2,7 @@
 use Prim.Native.Nat.{ℕ, _≤_, _<_}
 use native.Mathlib.Omega.{arith}
 use lib.ListN.{length, length-append}
-use Rattle.basics.specs.Text.{text, decimal}
+use Rattle.basics.specs.Text.{text}
 use Rattle.basics.proofs.Text.{decimal-length}
 use Rattle.remains.specs.Line.{kept-line}
 

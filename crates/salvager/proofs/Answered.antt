@@ -4,12 +4,12 @@ use mathlib.Core.Logic.{_≢_, _⊎_, inl, inr}
 use Prim.Native.Nat.{ℕ, _+_, _-_, _≤_, _<_}
 use native.Mathlib.Nat.{sub-zero}
 use native.Mathlib.Omega.{arith}
-use mathlib.Core.Bool.{Bool, true, false, _||_, or-true}
-use mathlib.Core.List.{List, [], _++_}
+use mathlib.Core.Bool.{true, false, or-true}
+use mathlib.Core.List.{List, _++_}
 use lib.ListN.{length, drop}
 use Rattle.basics.specs.Bytes.{Bytes}
 use Rattle.basics.specs.Choice.{pick, same}
-use Rattle.basics.proofs.Choice.{both, pick-true, pick-false, pick-then, pick-else, equal-same, unequal-same, same-equal, same-unequal, lt-less, le-less}
+use Rattle.basics.proofs.Choice.{both, pick-then, pick-else, unequal-same, same-equal, lt-less, le-less}
 use Rattle.memory.specs.Over.{over}
 use Rattle.job.specs.declared.Limits.{Limits}
 use Rattle.job.specs.declared.Reply.{Reply}

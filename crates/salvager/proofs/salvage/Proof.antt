@@ -1,9 +1,9 @@
 -- `salvager::salvage` meets its contract: nothing is touched before both memories are known to be large enough, and the work memory is cleared. What is true
 -- of every salvage is proved of the definitions (`remains`). Assumes nothing.
-use mathlib.Core.Path.{_≡_, sym, ap, _∙_}
+use mathlib.Core.Path.{ap, _∙_}
 use Prim.Native.Nat.{ℕ, _≤_}
 use mathlib.Core.List.{List, _++_}
-use lib.ListN.{length, drop}
+use lib.ListN.{length}
 use Rattle.basics.specs.Maps.{at}
 use Rattle.job.specs.File.{zeros}
 use Rattle.job.specs.Limits.{most-stream}

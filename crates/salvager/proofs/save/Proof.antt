@@ -1,8 +1,8 @@
 -- `salvager::save` meets its contract: the conditions in their order, and then a write of the shortened stream. Assumes nothing.
 use mathlib.Core.Path.{_≡_, sym, ap, _∙_}
-use Prim.Native.Nat.{ℕ, _+_, _≤_}
+use Prim.Native.Nat.{ℕ, _≤_}
 use mathlib.Core.List.{List}
-use lib.ListN.{length, take}
+use lib.ListN.{length}
 use lib.Seq.{length-take-le}
 use Rattle.job.specs.Calls.{write-number, write-length, write-out}
 use Rattle.remains.specs.Kept.{records-end, entries-kept}

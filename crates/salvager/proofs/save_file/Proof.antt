@@ -1,10 +1,9 @@
 -- `salvager::save_file` meets its contract: the leading payloads stand in front of the work memory, and their stream is saved. Assumes nothing.
-use mathlib.Core.Path.{_≡_, refl, sym, ap, ap₂, subst, _∙_}
-use Prim.Native.Nat.{ℕ, _*_, _≤_, _<_, min}
-use mathlib.Core.List.{List, _++_}
+use mathlib.Core.Path.{_≡_, refl, sym, ap, subst, _∙_}
+use Prim.Native.Nat.{ℕ, _*_, _≤_}
+use mathlib.Core.List.{List}
 use lib.ListN.{length, take, drop}
 use lib.Seq.{length-take-le, take-at}
-use Rattle.memory.specs.Over.{over}
 use Rattle.block.specs.Block.{block-size, payload-size}
 use Rattle.job.specs.Limits.{most-stream}
 use Rattle.job.specs.File.{block-count, payloads}
