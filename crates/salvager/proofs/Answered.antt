@@ -68,15 +68,16 @@ written-saved l s before after w r e done count named told =
       left = done .2 ∙ alike _ _ _ _ before e (λ z. refl);
     }
 
--- the number, the counts and both memories of a call
-abbrev pub Told : Limits → List ℕ → List ℕ → List ℕ → List ℕ → List ℕ → SalvageReply → Type 0
-Told l file work out work′ out′ r =
+-- the number, the counts and both memories of a call, and what else holds
+abbrev pub Told : Limits → List ℕ → List ℕ → List ℕ → List ℕ → List ℕ → SalvageReply → Type 0 → Type 0
+Told l file work out work′ out′ r else-holds =
     (r .number ≡ salvage-number l file work out)
     × ((r .length ≡ salvage-length l file work out)
     × ((r .kept ≡ counted l file work out (kept-entries file))
     × ((r .named ≡ counted l file work out (named-entries file))
     × ((out′ ≡ salvage-out l file work out)
-    × (work′ ≡ salvage-work l work out)))))
+    × ((work′ ≡ salvage-work l work out)
+    × else-holds)))))
 
 -- what is true of every salvage
 abbrev pub Claimed : Limits → List ℕ → Type 0
@@ -85,29 +86,17 @@ Claimed l file =
     × ((salvage-refusal l file ≡ 0 → Proper l file)
     × (salvage-refusal l file ≡ 0 → (whole : List ℕ) → file-refusal l whole ≡ 0 → Blocks-of whole file → KeptRun (job-of (stream-of whole)) (job-of (stream-of (salvaged file)))))
 
--- both
-abbrev pub Promised : Limits → List ℕ → List ℕ → List ℕ → List ℕ → List ℕ → SalvageReply → Type 0
-Promised l file work out work′ out′ r =
-    (r .number ≡ salvage-number l file work out)
-    × ((r .length ≡ salvage-length l file work out)
-    × ((r .kept ≡ counted l file work out (kept-entries file))
-    × ((r .named ≡ counted l file work out (named-entries file))
-    × ((out′ ≡ salvage-out l file work out)
-    × ((work′ ≡ salvage-work l work out)
-    × Claimed l file)))))
-
-pub promised : {l : Limits} → Sound l → (file work out work′ out′ : List ℕ) (r : SalvageReply) → Bytes file → Told l file work out work′ out′ r → Promised l file work out work′ out′ r
-promised sound file work out work′ out′ r bytes t =
-    (t .0, (t .1 .0, (t .1 .1 .0, (t .1 .1 .1 .0, (t .1 .1 .1 .1 .0, (t .1 .1 .1 .1 .1, (undamaged sound file bytes, (proper sound file, λ accepted whole good same. answers-kept sound file whole accepted good same))))))))
+pub claimed : {l : Limits} → Sound l → (file : List ℕ) → Bytes file → Claimed l file
+claimed sound file bytes = (undamaged sound file bytes, (proper sound file, λ accepted whole good same. answers-kept sound file whole accepted good same))
 
 -- a memory is too small: number 1, and nothing is touched
 pub small-told : (l : Limits) (file work out : List ℕ) (r : SalvageReply) → small-room l work out ≡ true → (r .number ≡ 1) × (r .length ≡ 0) × (r .kept ≡ 0) × (r .named ≡ 0)
-    → Told l file work out work out r
+    → Claimed l file → Told l file work out work out r (Claimed l file)
 unfolding salvage-length salvage-out salvage-work counted salvage-number
-small-told l file work out r small told =
+small-told l file work out r small told claims =
     let one : salvage-number l file work out ≡ 1 = pick-then _ _ small in
     let not-zero : same (salvage-number l file work out) 0 ≡ false = unequal-same (λ z. let q : _≡_ {A = ℕ} 1 0 = sym one ∙ z in omega arith) in
-    (told .0 ∙ sym one, (told .1 ∙ sym (pick-else _ _ not-zero), (told .2 ∙ sym (pick-else _ _ not-zero), (told .3 ∙ sym (pick-else _ _ not-zero), (sym (pick-else _ _ not-zero), sym (pick-then _ _ small))))))
+    (told .0 ∙ sym one, (told .1 ∙ sym (pick-else _ _ not-zero), (told .2 ∙ sym (pick-else _ _ not-zero), (told .3 ∙ sym (pick-else _ _ not-zero), (sym (pick-else _ _ not-zero), (sym (pick-then _ _ small), claims))))))
 
 pub small-work-room : (l : Limits) (work out : List ℕ) → length work < most-stream l → small-room l work out ≡ true
 unfolding small-room small-work
@@ -119,9 +108,9 @@ small-out-room l work out h = simp (lt-less h, or-true)
 
 -- both are large enough: what the leading blocks give, and a clear work memory
 pub large-told : {l : Limits} → Sound l → (file work out work′ out′ : List ℕ) (r : SalvageReply) → most-stream l ≤ length work → most-file l ≤ length out
-    → work′ ≡ zeros (most-stream l) ++ drop (most-stream l) work → Saved l (looked l file) out out′ r → Told l file work out work′ out′ r
+    → work′ ≡ zeros (most-stream l) ++ drop (most-stream l) work → Saved l (looked l file) out out′ r → Claimed l file → Told l file work out work′ out′ r (Claimed l file)
 unfolding salvage-length salvage-out salvage-work counted salvage-number small-room small-work held zeros-behind accepted-or salvaged
-large-told {l} sound file work out work′ out′ r room large cleared s =
+large-told {l} sound file work out work′ out′ r room large cleared s claims =
     let free : small-room l work out ≡ false = simp (le-less room, le-less large) in
     let number : kept-refusal l (looked l file) ≡ salvage-number l file work out = refusal-looked sound file ∙ sym (pick-else _ _ free) in
     let accepted : salvage-number l file work out ≡ 0 → salvage-refusal l file ≡ 0 = λ z. sym (pick-else _ _ free) ∙ z in
@@ -132,7 +121,7 @@ large-told {l} sound file work out work′ out′ r room large cleared s =
         s .size ∙ alike _ _ _ _ 0 number (λ z. ap length (files z)),
         (
           s .kept ∙ alike _ _ _ _ 0 number (λ z. entries-looked sound file (accepted z)),
-          (s .named ∙ alike _ _ _ _ 0 number (λ z. named-looked sound file (accepted z)), (s .left ∙ alike _ _ _ _ out number (λ z. ap (λ (x : List ℕ). over x out) (files z)), cleared ∙ clear)),
+          (s .named ∙ alike _ _ _ _ 0 number (λ z. named-looked sound file (accepted z)), (s .left ∙ alike _ _ _ _ out number (λ z. ap (λ (x : List ℕ). over x out) (files z)), (cleared ∙ clear, claims))),
         ),
       ),
     )
