@@ -8,10 +8,11 @@ use job::schedule_length;
 use memory::clear;
 use memory::put_word;
 use reader::take_block;
+use writer::smaller;
 use writer::write;
 ghost use mathlib.Core.Path.{_≡_};
 ghost use mathlib.Core.List.{List};
-ghost use Prim.Native.Nat.{ℕ, _+_, _*_, _≤_, _<_, min};
+ghost use Prim.Native.Nat.{ℕ, _+_, _*_, _≤_, _<_};
 ghost use lib.ListN.{length, take, drop};
 ghost use Rattle.basics.specs.Choice.{pick, same};
 ghost use Rattle.memory.specs.Over.{over};
@@ -46,12 +47,6 @@ impl SalvageReply {
             named: 0,
         }
     }
-}
-
-fn smaller(a: usize, b: usize) -> usize
-    ensures { λ r. ⌜ r ≡ min a b ⌝ }
-{
-    if a < b { a } else { b }
 }
 
 // Blocks of a file, ascending, up to one that would be refused: their payloads go into the work memory, one behind the other. How many.

@@ -42,7 +42,8 @@ fn refusal(limits: Limits, s: &[u8], room: usize) -> u8
     lists(s)
 }
 
-fn smaller(a: usize, b: usize) -> usize
+// The smaller of two numbers.
+pub fn smaller(a: usize, b: usize) -> usize
     ensures { λ r. ⌜ r ≡ min a b ⌝ }
 {
     if a < b { a } else { b }
