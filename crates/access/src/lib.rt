@@ -1,5 +1,6 @@
 // The 21 accesses of the step table, a function for each: what a row does to shared memory and to the registers of its
 // operation. Document 01: "A step is one read, one write or one compare-and-set of shared memory, with the private work after it."
+#![tactic(auto)]
 ghost use Rattle.std.specs.Prelude.{◌≡◌, ℕ};
 ghost use Rattle.machine.specs.declared.Access.TheVariants.{ReadHead, ReadTail, ReadNextOfH, ReadNextOfT, Link, TailToOwn, TailToN, HeadToN, ReadTop, ReadTopToTake, ReadMark, Push, RaiseMark, TopToNext, ReadUpper, ReadUpperToTake, LinkAbove, TopToOwn, TopToN, Cut, ClearFlag};
 ghost use Rattle.basics.specs.Choice.{same};
@@ -30,7 +31,7 @@ const LIVE: u16 = 0;
 const CLEARED: u16 = 1;
 
 // The registers of the operation that makes a step, and the cells of shared memory that are no node's.
-#[derive(Drop)]
+#[derive(Clone, Copy)]
 pub struct Scalars {
     pub h: u16,
     pub t: u16,
@@ -41,7 +42,7 @@ pub struct Scalars {
 }
 
 // What an access left in them, how it came out, and what it was for the record.
-#[derive(Drop)]
+#[derive(Clone, Copy)]
 pub struct Accessed {
     pub h: u16,
     pub t: u16,

@@ -1,4 +1,5 @@
 // The block of a job file: its two sums, what it gives, and how it is made.
+#![tactic(auto)]
 ghost use Rattle.std.specs.Prelude.{◌≡◌, ◌≤◌, ◌++◌, length};
 ghost use Rattle.basics.specs.Words.{word_bytes};
 ghost use Rattle.memory.specs.Over.{over};
@@ -8,7 +9,7 @@ ghost use Rattle.block.specs.Checked.{number_of, bytes_of, filled};
 use memory::{clear, copy, put_word, word_at};
 
 // The two sums of a block.
-#[derive(Drop)]
+#[derive(Clone, Copy)]
 struct Sums {
     pub a: u16,
     pub b: u16,
@@ -39,7 +40,7 @@ impl Sums {
 }
 
 // What a block gives: its payload, or the reason why not.
-#[derive(Drop)]
+#[derive(Clone, Copy)]
 pub enum Checked {
     Payload,
     SumDiffers,

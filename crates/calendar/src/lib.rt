@@ -1,4 +1,6 @@
 // Dates of the Gregorian calendar and their weekdays.
+#![tactic(auto)]
+
 ghost use Rattle.std.specs.Prelude.{◌≡◌, ◌-◌, ◌≤◌, true};
 ghost use Rattle.calendar.specs.Years.{is_leap, first_year, days_of_years};
 ghost use Rattle.calendar.specs.Months.{month_length, days_of_months};

@@ -1,4 +1,5 @@
 // What the programs say: a refusal, and the bytes that a call left in front of a lent memory.
+#![tactic(auto)]
 
 // `refused`, a space, a number of at most two digits and a newline.
 pub fn refuse(fd: i32, number: u8) {

@@ -1,5 +1,6 @@
 // Transmission windows in a stream: before a run, the entries of the steps outside their process's window are made idle ones, so that the run knows no
 // windows. Every window opens and closes at a whole minute, so who may act is found once a minute, and no step divides.
+#![tactic(auto)]
 ghost use Rattle.std.specs.Prelude.{◌≡◌, ℕ, ◌+◌, ◌≤◌, ◌<◌, false, true, length, get_or};
 ghost use Rattle.basics.specs.Maps.{at};
 ghost use Rattle.job.specs.Limits.{field};
@@ -28,7 +29,7 @@ const NOBODY: u8 = Limits::PROCESSES as u8;
 
 // The window of a process, as the day of the start sees it: is it booked on the day before, on that day, on the day after, and at which minutes does it
 // open and close, from the midnight of such a day?
-#[derive(Drop)]
+#[derive(Clone, Copy)]
 struct Window {
     yesterday: bool,
     today: bool,
@@ -38,13 +39,13 @@ struct Window {
 }
 
 // The windows of the eight processes.
-#[derive(Drop)]
+#[derive(Clone, Copy)]
 struct Bookings {
     windows: [Window; Limits::PROCESSES],
 }
 
 // Which of the eight processes may act.
-#[derive(Drop)]
+#[derive(Clone, Copy)]
 struct Allowed {
     processes: [bool; Limits::PROCESSES],
 }

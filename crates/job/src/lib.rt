@@ -1,4 +1,5 @@
 // The stream of a job: its fields, and the conditions of document 01's table that are about a stream.
+#![tactic(auto)]
 ghost use Rattle.std.specs.Prelude.{◌≡◌, ◌+◌, ◌*◌, ◌≤◌, ◌<◌, ◌||◌, not, length};
 ghost use Rattle.basics.specs.Choice.{less};
 ghost use Rattle.job.specs.Limits.{field, most_file, most_stream, Sound};
@@ -12,26 +13,26 @@ use block::Checked;
 use memory::word_at;
 
 // An operation's number; operations count from 1, and 0 is none.
-#[derive(Drop)]
+#[derive(Clone, Copy)]
 pub struct Operation(pub u16);
 
 // A step's number; steps count from 1.
-#[derive(Drop)]
+#[derive(Clone, Copy)]
 pub struct Step(pub u16);
 
 // A process's number; processes count from 0.
-#[derive(Drop)]
+#[derive(Clone, Copy)]
 pub struct Process(pub u8);
 
 // What the schedule names for a step: a process that steps, or one that drops its begun operation.
-#[derive(Drop)]
+#[derive(Clone, Copy)]
 pub enum Slot {
     Acts(Process),
     Drops(Process),
 }
 
 // The objects of a job.
-#[derive(Drop)]
+#[derive(Clone, Copy)]
 pub enum Kind {
     Queue,
     Stack,
@@ -40,7 +41,7 @@ pub enum Kind {
 }
 
 // What is found under a number: the kind that has it, or that none has.
-#[derive(Drop)]
+#[derive(Clone, Copy)]
 enum Lookup {
     Found(Kind),
     Missing,
@@ -48,7 +49,7 @@ enum Lookup {
 
 // The limits of a profile: most processes P, operations N and steps S of a job, most blocks of its file, and the least length of the
 // report memory.
-#[derive(Drop)]
+#[derive(Clone, Copy)]
 pub struct Limits {
     pub processes: u16,
     pub operations: u16,
@@ -105,7 +106,7 @@ impl Limits {
 }
 
 // What a call answers: a number of document 01's table, 0 where it is accepted, and a length.
-#[derive(Drop)]
+#[derive(Clone, Copy)]
 pub struct Reply {
     pub number: u8,
     pub length: usize,
@@ -176,7 +177,7 @@ pub fn schedule_length(s: &[u8]) -> u16
 }
 
 // What a stream's header says of its job: read once, and passed on.
-#[derive(Drop)]
+#[derive(Clone, Copy)]
 pub struct Heading {
     pub object: Kind,
     pub count: u16,

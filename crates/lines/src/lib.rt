@@ -1,4 +1,5 @@
 // The lines of a report, each laid at a place of lent memory.
+#![tactic(auto)]
 ghost use Rattle.std.specs.Prelude.{◌≡◌, ◌++◌, ◌+◌, ◌≤◌, ◌<◌, length};
 ghost use Rattle.basics.specs.Text.{text, decimal};
 ghost use Rattle.text.specs.Laid.{Wrote};
@@ -19,7 +20,7 @@ use stage::put_stage;
 use text::{put_bytes, put_labelled};
 
 // What is found to stand at a step: no line, the line of a put, that of an item's takers, or that of a take that answered empty.
-#[derive(Drop)]
+#[derive(Clone, Copy)]
 pub enum Found {
     Nothing,
     Put(Operation),

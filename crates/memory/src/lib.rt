@@ -1,4 +1,6 @@
 // Lent bytes: a number read from two of them or written to two, a copy, and zeros.
+#![tactic(auto)]
+
 ghost use Rattle.std.specs.Prelude.{◌≡◌, ◌+◌, ◌<◌, ◌≤◌, length, replicate};
 ghost use Rattle.basics.specs.Words.{word, word_bytes};
 ghost use Rattle.memory.specs.Over.{over};

@@ -1,4 +1,6 @@
 // Rows of cells in one lent list: a row for each operation, or for each node.
+#![tactic(auto)]
+
 ghost use Rattle.std.specs.Prelude.{◌≡◌, ◌<◌};
 ghost use Rattle.basics.specs.Maps.{at, upd};
 ghost use Rattle.rows.specs.Rows.{place, column, HasRows};

@@ -1,4 +1,5 @@
 // The run of a job: every step of the schedule, in the order given, on fresh memory.
+#![tactic(auto)]
 ghost use Rattle.std.specs.Prelude.{◌≡◌, ◌+◌, ◌-◌, ◌≤◌, length};
 ghost use Rattle.job.specs.Job.{«job_of»};
 ghost use Rattle.machine.specs.Memory.{fresh_memory};
@@ -21,7 +22,7 @@ use step::{Stepped, step};
 use table::has_ended;
 
 // The run state: "The eight places, one a process, go from step to step together"; and one for nobody, who is named for an idle step.
-#[derive(Drop)]
+#[derive(Clone, Copy)]
 pub struct Run {
     pub places: [Place; Run::PLACES],
 }
@@ -31,7 +32,7 @@ impl Run {
 }
 
 // The cells of an object that are no node's.
-#[derive(Drop)]
+#[derive(Clone, Copy)]
 pub struct Object {
     pub head: u16,
     pub tail: u16,
@@ -149,7 +150,7 @@ fn make(
 }
 
 // What a turn of a place leaves: whether its operation is over, and the place's row and registers and the object's cells.
-#[derive(Drop)]
+#[derive(Clone, Copy)]
 struct Turn {
     over: bool,
     left: Stepped,

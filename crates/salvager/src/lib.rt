@@ -1,4 +1,5 @@
 // Salvaging a spoiled job file: its leading blocks into the lent work memory, the schedule shortened there, and a proper file written.
+#![tactic(auto)]
 ghost use Rattle.std.specs.Prelude.{◌≡◌, List, ℕ, ◌+◌, ◌*◌, ◌≤◌, ◌<◌, length, take, drop};
 ghost use Rattle.basics.specs.Choice.{pick, same};
 ghost use Rattle.memory.specs.Over.{over};
@@ -20,7 +21,7 @@ use reader::take_block;
 use writer::{smaller, write};
 
 // What a salvage answers: its number and the file's length, as every call, the entries kept and those that the header names.
-#[derive(Drop)]
+#[derive(Clone, Copy)]
 pub struct SalvageReply {
     pub number: u8,
     pub length: usize,

@@ -1,5 +1,6 @@
 // One step of a place: the row's access, and the row after it. Document 01: "A step is one read, one write or one compare-and-set of
 // shared memory, with the private work after it."
+#![tactic(auto)]
 ghost use Rattle.std.specs.Prelude.{◌≡◌, false};
 ghost use Rattle.machine.specs.declared.Access.TheVariants.{Link, TailToN};
 ghost use Rattle.machine.specs.Table.{successor, ended, is_return};
@@ -19,7 +20,7 @@ use journal::{count_lost, note};
 use machine::{Access, Entry, Outcome, Place, Row};
 
 // What a step left: the place's row and registers, and the three cells of shared memory.
-#[derive(Drop)]
+#[derive(Clone, Copy)]
 pub struct Stepped {
     pub row: Row,
     pub h: u16,

@@ -1,4 +1,6 @@
 // Text written front to back into lent memory: bytes, and numbers in decimal. Each function gives the place behind what it wrote.
+#![tactic(auto)]
+
 ghost use Rattle.std.specs.Prelude.{◌≡◌, ◌++◌, ◌+◌, ◌≤◌, length};
 ghost use Rattle.basics.specs.Text.{decimal};
 ghost use Rattle.text.specs.Laid.{Wrote};
