@@ -1,7 +1,6 @@
 -- `job::bad_records` meets its contract. The loop's invariant: the records that are left decide. The measure is their number.
 -- Assumes nothing.
 use mathlib.Core.Path.{sym, ◌∙◌}
-use Prim.Native.Nat.{◌-◌}
 use Rattle.job.specs.Stream.{record_at, stream_length}
 use Rattle.job.specs.Refusals.{bad_record, bad_records}
 use Rattle.job.proofs.Conditions.{any_met, any_next, any_end}

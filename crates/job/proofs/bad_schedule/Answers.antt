@@ -1,7 +1,6 @@
 -- `job::bad_schedule` meets its contract. The loop's invariant: what was found so far and the entries that are left decide. The measure is
 -- their number. Assumes nothing.
 use mathlib.Core.Path.{◌∙◌}
-use Prim.Native.Nat.{◌-◌}
 use Rattle.job.specs.Stream.{stream_length}
 use Rattle.job.specs.Refusals.{bad_entry, bad_schedule}
 use Rattle.job.proofs.Conditions.{any_joins, any_joined}
