@@ -4,9 +4,12 @@ use native.Mathlib.Omega.{arith}
 use Rattle.basics.specs.Maps.{at}
 use Rattle.block.specs.Block.{block_size}
 use Rattle.windows.specs.Fields.{month}
-use Rattle.windows.proofs.month.Statement.{statement}
-use Rattle.windows.proofs.month.Tie as tie
+use Rattle.windows.proofs.month.Goals as goal
 
-pub month-spec : {M : Type 1} → statement M
+pub bounds-b-4 : goal.bounds-b-4
 unfolding block_size month at
-month-spec = tie.close (tie.spec (λ c. omega arith) (λ c. refl))
+bounds-b-4 c = omega arith
+
+pub returns : goal.returns
+unfolding block_size month at
+returns c = refl

@@ -4,9 +4,12 @@ use native.Mathlib.Omega.{arith}
 use Rattle.basics.specs.Maps.{at}
 use Rattle.block.specs.Block.{block_size}
 use Rattle.windows.specs.Fields.{day}
-use Rattle.windows.proofs.day.Statement.{statement}
-use Rattle.windows.proofs.day.Tie as tie
+use Rattle.windows.proofs.day.Goals as goal
 
-pub day-spec : {M : Type 1} → statement M
+pub bounds-b-5 : goal.bounds-b-5
 unfolding block_size day at
-day-spec = tie.close (tie.spec (λ c. omega arith) (λ c. refl))
+bounds-b-5 c = omega arith
+
+pub returns : goal.returns
+unfolding block_size day at
+returns c = refl
