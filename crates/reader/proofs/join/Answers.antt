@@ -23,20 +23,14 @@ pub number-requires : goal.number-requires
 number-requires c = tt
 
 pub shape_of-work-in_default : goal.shape_of-work-in_default
-shape_of-work-in_default c = omega (arith, c.take_block-answer.auto.1.1.0)
+shape_of-work-in_default c = omega (arith, c.take_block-answer.auto.work)
 
 pub returns-in_default : goal.returns-in_default
 returns-in_default c =     let j = c.loop-i.invariant in
     let t = c.take_block-answer in
-    let refused = refused_number t.result c.in_default.is in
+    let refused = refused_number t.result c.in_default.not-Payload in
     let p = c.args in
-    let more = c.loop-i-test.true in (
-      c.number.ensures ∙ refused_decides j more t.result t.ensures refused,
-      (
-        (λ z. absurd (refused (sym c.number.ensures ∙ z))),
-        ap (drop (payload_size * p.count)) (refused_keeps p.file.now _ _ c.loop-i.i t.result t.ensures refused) ∙ joining_behind j,
-      ),
-    )
+    let more = c.loop-i-test.true in record { number = c.number.ensures ∙ refused_decides j more t.result t.ensures.number refused; joined = (λ z. absurd (refused (sym c.number.ensures ∙ z))); behind = ap (drop (payload_size * p.count)) (refused_keeps p.file.now _ _ c.loop-i.i t.result t.ensures refused) ∙ joining_behind j }
 
 pub loop-i-preserved : goal.loop-i-preserved
 unfolding payload_size
@@ -50,4 +44,4 @@ pub returns : goal.returns
 unfolding payload_size
 returns c =     let j = c.loop-i.invariant in
     let done = c.loop-i-test.false in
-    (all_accepted j done, ((λ z. all_joined j done (omega arith)), joining_behind j))
+    record { number = all_accepted j done; joined = (λ z. all_joined j done (omega arith)); behind = joining_behind j }

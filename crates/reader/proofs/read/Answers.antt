@@ -3,7 +3,7 @@ use mathlib.Core.Path.{◌∙◌}
 use Prim.Native.Nat.{◌≤◌, ◌<◌}
 use lib.ListN.{length}
 use Rattle.job.specs.Limits.{most_stream}
-use Rattle.reader.proofs.Left.{small_number, small_length, small_left}
+use Rattle.reader.proofs.Left.{small_number, small_length, small_left, large_number, large_length, large_left}
 use native.Mathlib.Omega.{arith}
 use Rattle.reader.proofs.read.Goals as goal
 
@@ -11,19 +11,19 @@ pub returns-then-work-end : goal.returns-then-work-end
 returns-then-work-end c =     let e = c.refused.ensures in
     let p = c.args in
     let small : length p.work.now < most_stream p.limits = omega (arith, c.if-work-end.true, c.most_stream-end.ensures) in
-    (e.0 ∙ small_number p.limits p.file.now p.work.now small, (e.1 ∙ small_length p.limits p.file.now p.work.now small, small_left p.limits p.file.now p.work.now small))
+    record { number = e.0 ∙ small_number p.limits p.file.now p.work.now small; size = e.1 ∙ small_length p.limits p.file.now p.work.now small; work = small_left p.limits p.file.now p.work.now small }
 
 pub load-r-requires : goal.load-r-requires
 load-r-requires c = (c.requires, omega (arith, c.most_stream-end.ensures))
 
 pub returns : goal.returns
-returns c =     cet p = c.args in
-    cet work = c.load-r.new.1.1.0 in
-    cet carge : most_stream p.limits ≤ cength p.work.now = omega (arith, c.if-work-end.false, c.most_stream-end.ensures) in (
-      carge_number p.limits p.file.now p.work.now work c.load-r.result c.load-r.ensures carge,
+returns c =     let p = c.args in
+    let work = c.load-r.new.work.1.0 in
+    let large : most_stream p.limits ≤ length p.work.now = omega (arith, c.if-work-end.false, c.most_stream-end.ensures) in (
+      large_number p.limits p.file.now p.work.now work c.load-r.result c.load-r.ensures large,
       (
-        carge_length p.limits p.file.now p.work.now work c.load-r.result c.load-r.ensures carge,
-        carge_left p.limits p.file.now p.work.now work c.load-r.result c.load-r.ensures carge c.clear.new.0 c.most_stream-end.ensures c.load-r.auto.1.1.0 c.clear.ensures,
+        large_length p.limits p.file.now p.work.now work c.load-r.result c.load-r.ensures large,
+        large_left p.limits p.file.now p.work.now work c.load-r.result c.load-r.ensures large c.clear.new.0 c.most_stream-end.ensures c.load-r.auto.1.1.0 c.clear.ensures,
       ),
     )
 

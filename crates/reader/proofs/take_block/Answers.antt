@@ -38,8 +38,5 @@ returns c =     let p = c.args in
     let work : List ℕ = p.work.now in
     let b : List ℕ = block_at p.file.now p.i in
     let given : length (bytes_of r b) ≤ payload_size = length_given r b (length_block_at p.file.now p.i (omega arith)) in
-    let is_Block = block_part p.file.now p.i in (
-      c.give.ensures.0 ∙ ap (block_refusal p.i) is_Block,
-      part_over work (bytes_of r b) c.give.new.1.1.0 (payload_size * p.i) (length work - payload_size * p.i) (omega arith)
-          (c.give.ensures.1 ∙ ap (λ (x : List ℕ). over (bytes_of r x) (take (length work - payload_size * p.i) (drop (payload_size * p.i) work))) is_Block),
-    )
+    let is_Block = block_part p.file.now p.i in record { number = c.give.ensures.number ∙ ap (block_refusal p.i) is_Block; payload = part_over work (bytes_of r b) c.give.new.to (payload_size * p.i) (length work - payload_size * p.i) (omega arith)
+          (c.give.ensures.payload ∙ ap (λ (x : List ℕ). over (bytes_of r x) (take (length work - payload_size * p.i) (drop (payload_size * p.i) work))) is_Block) }

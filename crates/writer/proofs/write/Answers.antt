@@ -12,7 +12,7 @@ returns-then-number-ne0 c =     let e = c.refused.ensures in
     let p = c.args in
     let n = c.refusal-number.ensures p.out.now refl in
     let refused : write_number p.limits p.stream.now p.out.now ≢ 0 = λ z. c.if-number-ne0.true (n ∙ z) in
-    (e.0 ∙ n, (e.1 ∙ refused_length _ _ _ refused, refused_out _ _ _ refused))
+    record { number = e.0 ∙ n; size = e.1 ∙ refused_length _ _ _ refused; out = refused_out _ _ _ refused }
 
 pub exact_count-count-requires : goal.exact_count-count-requires
 exact_count-count-requires c =     let p = c.args in
@@ -35,4 +35,4 @@ pub returns : goal.returns
 unfolding block_size
 returns c =     let n = c.refusal-number.ensures _ refl in
     let done = sym n ∙ c.if-number-ne0.false in
-    (n, (done_length _ _ _ done c.exact_count-count.ensures, c.put_blocks.ensures ∙ done_out _ _ _ done))
+    record { number = n; size = done_length _ _ _ done c.exact_count-count.ensures; out = c.put_blocks.ensures ∙ done_out _ _ _ done }

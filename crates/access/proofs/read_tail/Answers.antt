@@ -4,14 +4,8 @@ use Rattle.machine.specs.Access.{access, have_read}
 use Rattle.machine.specs.Notes.{event_of}
 use Rattle.access.specs.Nodes.{memory_of}
 use Rattle.access.specs.View.{reached_from, reached_by}
-use borrow.Author.Rules.{rules}
-use Rattle.access.proofs.read_tail.Statement.{statement}
-use Rattle.access.proofs.read_tail.Tie as tie
+use Rattle.access.proofs.read_tail.Goals as goal
 
-returns : tie.Need-returns
+pub returns : goal.returns
 unfolding access have_read reached_from reached_by memory_of event_of
 returns c = λ own nodes. rw c.answer.ensures (record { reaches = refl; tells = refl })
-
-pub read-tail-spec : {M : Type 1} → statement M
-read-tail-spec =
-    tie.close (tie.spec (λ c κs. search rules) returns)

@@ -5,17 +5,10 @@ use Rattle.machine.specs.Notes.{event_of}
 use Rattle.access.specs.Nodes.{memory_of}
 use Rattle.access.specs.View.{reached_from, reached_by}
 use Rattle.machine.specs.Memory.{with_top}
-use borrow.Author.Rules.{rules}
-use Rattle.access.proofs.top_to_own.Statement.{statement}
-use Rattle.access.proofs.top_to_own.Tie as tie
+use Rattle.access.proofs.top_to_own.Goals as goal
 
-returns : tie.Need-returns
+pub returns : goal.returns
 unfolding access have_set reached_from reached_by memory_of event_of with_top
-returns c =
-    λ nodes.
-    rw (c.answer.ensures, c.before.set_from_to.ensures, c.before.before.yes-if-same.ensures)
+returns c =     λ nodes.
+    rw (c.answer.ensures, c.set_from_to.ensures, c.yes_if_same-outcome.ensures)
     (record { reaches = refl; tells = refl })
-
-pub top-to-own-spec : {M : Type 1} → statement M
-top-to-own-spec =
-    tie.close (tie.spec (λ c κs. search rules) (λ c κs. search rules) (λ c κs. search rules) returns)

@@ -8,23 +8,14 @@ use Rattle.machine.specs.Access.{access, have_set}
 use Rattle.machine.specs.Notes.{event_of}
 use Rattle.access.specs.Nodes.{memory_of}
 use Rattle.access.specs.View.{reached_from, reached_by}
-use borrow.Author.Rules.{rules}
-use Rattle.access.proofs.push.Statement.{statement}
-use Rattle.access.proofs.push.Tie as tie
+use Rattle.access.proofs.push.Goals as goal
 
-returns : tie.Need-returns
+pub returns-then-c : goal.returns-then-c
 unfolding access have_set reached_from reached_by memory_of event_of with_next with_top set_from_to yes_if pick
-returns c =
-    let stored = next_stored _ _ _ _ c.before.before.before.store.ensures in
+returns-then-c c =     let stored = next_stored _ _ _ _ c.store.ensures in
     rw c.answer.ensures
-    (record { reaches = rw (equal_same c.before.before.before.before.before.if1.true, stored.0, stored.1, stored.2); tells = refl })
+    (record { reaches = rw (equal_same c.if-c.true, stored.0, stored.1, stored.2); tells = refl })
 
-returns-2 : tie.Need-returns-2
+pub returns : goal.returns
 unfolding access have_set reached_from reached_by memory_of event_of with_next with_top set_from_to yes_if pick
-returns-2 c = rw c.answer2.ensures (record { reaches = rw (unequal_same c.before.if1.false); tells = refl })
-
-pub push_spec : {M : Type 1} → statement M
-push_spec =
-    tie.close
-    (tie.spec
-    (λ c κs. search rules) (λ c κs. search rules) (λ c. search rules) returns (λ c κs. search rules) returns-2)
+returns c = rw c.answer-2.ensures (record { reaches = rw (unequal_same c.if-c.false); tells = refl })
