@@ -16,12 +16,6 @@ pub take_block-answer-requires : goal.take_block-answer-requires
 unfolding block_size payload_size
 take_block-answer-requires c = omega arith
 
-pub enum_told-1 : goal.enum_told-1
-enum_told-1 c = c.in-Payload.is
-
-pub number-requires : goal.number-requires
-number-requires c = tt
-
 pub shape_of-work-in_default : goal.shape_of-work-in_default
 shape_of-work-in_default c = omega (arith, c.take_block-answer.auto.work)
 
@@ -30,12 +24,12 @@ returns-in_default c =     let j = c.loop-i.invariant in
     let t = c.take_block-answer in
     let refused = refused_number t.result c.in_default.not-Payload in
     let p = c.args in
-    let more = c.loop-i-test.true in record { number = c.number.ensures ∙ refused_decides j more t.result t.ensures.number refused; joined = (λ z. absurd (refused (sym c.number.ensures ∙ z))); behind = ap (drop (payload_size * p.count)) (refused_keeps p.file.now _ _ c.loop-i.i t.result t.ensures refused) ∙ joining_behind j }
+    let more = c.loop-i-test.true in record { number = c.number.ensures ∙ refused_decides j more t.result (t.ensures.number, t.ensures.payload) refused; joined = (λ z. absurd (refused (sym c.number.ensures ∙ z))); behind = ap (drop (payload_size * p.count)) (refused_keeps p.file.now _ _ c.loop-i.i t.result (t.ensures.number, t.ensures.payload) refused) ∙ joining_behind j }
 
 pub loop-i-preserved : goal.loop-i-preserved
 unfolding payload_size
 loop-i-preserved c =     let t = c.take_block-answer in
-    joining_next c.loop-i.invariant c.loop-i-test.true t.result t.ensures.number c.requires.1 (omega arith) c.in-Payload.is
+    joining_next c.loop-i.invariant c.loop-i-test.true t.result (t.ensures.number, t.ensures.payload) c.requires.1 (omega arith) c.in-Payload.is
 
 pub shape_of-work : goal.shape_of-work
 shape_of-work c = c.loop-i.invariant.laid.size

@@ -44,7 +44,7 @@ pub returns : goal.returns
 unfolding block_count block_size payload_size
 returns c =     let none = c.if-of_blocks-ne0.false in
     let good = sym c.bad_length.ensures ∙ c.if-bad_length.false in
-    joined_loaded _ _ _ _ _ good (sym c.join-of_blocks.ensures.number ∙ none) (c.join-of_blocks.ensures.joined none) (behind_blocks _ _ _ _ good c.join-of_blocks.ensures.behind) c.reply.ensures.0 c.reply.ensures.1
+    joined_loaded _ _ _ _ _ good (sym c.join-of_blocks.ensures.number ∙ none) (c.join-of_blocks.ensures.joined none) (behind_blocks _ _ _ _ good c.join-of_blocks.ensures.behind) c.reply.ensures.number c.reply.ensures.size
 
 pub bad_length-requires : goal.bad_length-requires
 bad_length-requires c = c.requires.0

@@ -18,14 +18,13 @@ load-r-requires c = (c.requires, omega (arith, c.most_stream-end.ensures))
 
 pub returns : goal.returns
 returns c =     let p = c.args in
-    let work = c.load-r.new.work.1.0 in
-    let large : most_stream p.limits ≤ length p.work.now = omega (arith, c.if-work-end.false, c.most_stream-end.ensures) in (
-      large_number p.limits p.file.now p.work.now work c.load-r.result c.load-r.ensures large,
-      (
-        large_length p.limits p.file.now p.work.now work c.load-r.result c.load-r.ensures large,
-        large_left p.limits p.file.now p.work.now work c.load-r.result c.load-r.ensures large c.clear.new.0 c.most_stream-end.ensures c.load-r.auto.1.1.0 c.clear.ensures,
-      ),
-    )
+    let work = c.load-r.new.work in
+    let large : most_stream p.limits ≤ length p.work.now = omega (arith, c.if-work-end.false, c.most_stream-end.ensures) in
+    record {
+      number = large_number p.limits p.file.now p.work.now work c.load-r.result c.load-r.ensures large;
+      size = large_length p.limits p.file.now p.work.now work c.load-r.result c.load-r.ensures large;
+      work = large_left p.limits p.file.now p.work.now work c.load-r.result c.load-r.ensures large c.clear.new.to c.most_stream-end.ensures c.load-r.auto.work c.clear.ensures;
+    }
 
 pub slice_bounds-clear-count : goal.slice_bounds-clear-count
 slice_bounds-clear-count c = omega (arith, c.load-r.ensures.room, c.most_stream-end.ensures)
