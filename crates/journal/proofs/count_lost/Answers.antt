@@ -4,7 +4,6 @@ use Prim.Native.Nat.{ℕ, suc, ◌+◌}
 use native.Mathlib.Numerals.{add-one}
 use mathlib.Core.Bool.{true}
 use mathlib.Core.List.{List}
-use borrow.Author.Rules.{rules}
 use Rattle.basics.specs.Maps.{at, upd}
 use Rattle.basics.proofs.Choice.{pick_true}
 use Rattle.rows.specs.Rows.{place}
@@ -12,18 +11,12 @@ use Rattle.rows.specs.Operations.{number, op_width, cells, stored}
 use Rattle.rows.specs.Operations.Column.{First}
 use Rattle.rows.proofs.Operations.{cells_stored}
 use Rattle.journal.specs.Stored.{counted}
-use Rattle.journal.proofs.count_lost.Statement.{statement}
-use Rattle.journal.proofs.count_lost.Tie as tie
+use Rattle.journal.proofs.count_lost.Goals as goal
 
 one_more : (l l' : List ℕ) (n : ℕ) → n ≡ cells l First 0 → at l' ≡ upd (at l) (place op_width 0 (number First)) (n + 1) → cells l' ≡ counted true (cells l)
 unfolding counted
 one_more l l' n e s =
     cells_stored First l l' 0 (n + 1) s ∙ ap (λ v. stored First 0 v (cells l)) (add-one n ∙ ap suc e) ∙ sym (pick_true (stored First 0 (suc (cells l First 0)) (cells l)) (cells l))
 
-returns : tie.Need-returns
-returns c = one_more _ _ _ c.before.before.before.before.cell.ensures c.before.before.store.ensures
-
-pub count-lost-spec : {M : Type 1} → statement M
-count-lost-spec =
-    tie.close
-    (tie.spec (λ c κs. search rules) (λ c. search rules) (λ c κs. search rules) (λ c. search rules) returns)
+pub returns : goal.returns
+returns c = one_more _ _ _ c.cell-lost.ensures c.store.ensures
