@@ -24,9 +24,7 @@ use Rattle.step.specs.declared.Stepped.{Stepped}
 use Rattle.step.proofs.Arms.{room_as}
 use Rattle.machine.proofs.Returns.{returns_is}
 use Rattle.step.specs.Promise.{heard, IsStep, event_at}
-use borrow.Author.Rules.{rules}
-use Rattle.step.proofs.step.Statement.{statement}
-use Rattle.step.proofs.step.Tie as tie
+use Rattle.step.proofs.step.Goals as goal
 
 -- the cells that the code makes of a place
 abbrev cells_of : Place → ℕ → ℕ → ℕ → Scalars
@@ -74,21 +72,8 @@ counted-as row o k before outcome looked going next same count =
     in
     count ∙ (λ i. counted (back i) (noted (same i) o k before))
 
-perform-requires : tie.Need-perform-requires
-perform-requires c κs =
-    let start = c.before.before.before.before.before.before in
-    (start.requires.0.1, room_as (event_is _ _ _ _ _ c.before.before.row_of.ensures) start.requires.1.0, start.requires.1.1)
+pub perform-d-requires : goal.perform-d-requires
+perform-d-requires c =     (c.requires.row_value.1, room_as (event_is _ _ _ _ _ c.row_of-e.ensures) c.requires.has_cells.0, c.requires.has_cells.1)
 
-returns : tie.Need-returns
-returns c =
-    let did = c.before.before.before.before.before in
-    let looked = did.before.before.before.row_of.ensures in (
-      access-and-successor-are-the-step looked did.perform.ensures.0 c.successor.ensures,
-      counted-as _ _ _ _ _ looked did.before.before.before.before.before.before.before.requires.0.0 c.successor.ensures (event_is _ _ _ _ _ looked) did.perform.ensures.1,
-    )
-
-pub step_spec : {M : Type 1} → statement M
-step_spec =
-    tie.close
-    (tie.spec
-    (λ c κs. search rules) perform-requires (λ c κs. search rules) (λ c. search rules) (λ c. search rules) returns)
+pub returns : goal.returns
+returns c =     let looked = c.row_of-e.ensures in record { step = access-and-successor-are-the-step looked c.perform-d.ensures.0 c.successor-row.ensures; ops_after = counted-as _ _ _ _ _ looked c.requires.0.0 c.successor-row.ensures (event_is _ _ _ _ _ looked) c.perform-d.ensures.1 }
