@@ -26,7 +26,7 @@ returns-in_default c =     let g = c.loop-i.invariant in
     let t = c.take_block-answer in
     let refused = refused_number t.result c.in_default.not-Payload in
     let more = c.loop-i-test.true in
-    (refused_ends g more t.result t.ensures refused, refused_left g more t.result t.ensures refused (omega (arith, g.laid.size)))
+    record { count = refused_ends g more t.result t.ensures.number refused; payloads = refused_left g more t.result t.ensures refused (omega (arith, g.laid.size)) }
 
 pub loop-i-preserved : goal.loop-i-preserved
 unfolding payload_size

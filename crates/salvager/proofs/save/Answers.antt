@@ -32,11 +32,11 @@ returns-then-s-start c =     let p = c.args in
 
 pub slice_bounds-write-end : goal.slice_bounds-write-end
 slice_bounds-write-end c =     let p = c.args in
-    omega (arith, c.shorten-end.ensures.end, c.shorten-end.auto.0, end_within p.s.now (omega (arith, c.if-s-start.false, c.records_end-start.ensures)))
+    omega (arith, c.shorten-end.ensures.end, c.shorten-end.auto.s, end_within p.s.now (omega (arith, c.if-s-start.false, c.records_end-start.ensures)))
 
 pub slice_bounds-write-end-2 : goal.slice_bounds-write-end-2
 slice_bounds-write-end-2 c =     let p = c.args in
-    sym (length-take-le _ c.shorten-end.new.s (omega (arith, c.shorten-end.ensures.0, c.shorten-end.auto.0, end_within p.s.now (omega (arith, c.if-s-start.false, c.records_end-start.ensures)))))
+    sym (length-take-le _ c.shorten-end.new.s (omega (arith, c.shorten-end.ensures.end, c.shorten-end.auto.s, end_within p.s.now (omega (arith, c.if-s-start.false, c.records_end-start.ensures)))))
 
 pub overflow_cast-end : goal.overflow_cast-end
 overflow_cast-end c =     let p = c.args in
@@ -54,7 +54,7 @@ returns c =     let p = c.args in
     let w = c.write-r in
     let whole : records_end s ≤ length s = omega (arith, c.if-s-start.false, c.records_end-start.ensures) in
     let stream = c.shorten-end.ensures.stream in
-    written_saved l s out w.new.1.1.0 w.result c.with_counts.result
+    written_saved l s out w.new.out.1.0 w.result c.with_counts.result
     (write_decides l s c.header-of_header.ensures c.if-of_header-ne0.false c.requires.0 c.if-s-lt6.false whole out c.requires.1)
     (w.ensures.0 ∙ ap (λ (x : List ℕ). write_number l x out) stream, w.ensures.1.0 ∙ ap (λ (x : List ℕ). write_length l x out) stream, w.ensures.1.1 ∙ ap (λ (x : List ℕ). write_out l x out) stream)
     (omega (arith, c.shorten-end.ensures.0, c.records_end-start.ensures))
