@@ -1,6 +1,7 @@
 // The 21 accesses of the step table, a function for each: what a row does to shared memory and to the registers of its
 // operation. Document 01: "A step is one read, one write or one compare-and-set of shared memory, with the private work after it."
 #![tactic(auto)]
+
 ghost use Rattle.std.specs.Prelude.{◌≡◌, ℕ};
 ghost use Rattle.machine.specs.declared.Access.TheVariants.{ReadHead, ReadTail, ReadNextOfH, ReadNextOfT, Link, TailToOwn, TailToN, HeadToN, ReadTop, ReadTopToTake, ReadMark, Push, RaiseMark, TopToNext, ReadUpper, ReadUpperToTake, LinkAbove, TopToOwn, TopToN, Cut, ClearFlag};
 ghost use Rattle.basics.specs.Choice.{same};

@@ -1,5 +1,6 @@
 // The calls of the bench for C and Rust. Each gives number × 2^32 + length; include/bench.h says what each number means.
 #![tactic(auto)]
+
 ghost use Rattle.std.specs.Prelude.{◌≡◌, List, ℕ, ◌<◌, ◌^◌};
 ghost use Rattle.job.specs.declared.Kind.TheVariants.{Queue};
 ghost use Rattle.job.specs.Limits.{field};

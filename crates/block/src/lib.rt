@@ -1,5 +1,6 @@
 // The block of a job file: its two sums, what it gives, and how it is made.
 #![tactic(auto)]
+
 ghost use Rattle.std.specs.Prelude.{◌≡◌, ◌≤◌, ◌++◌, length};
 ghost use Rattle.basics.specs.Words.{word_bytes};
 ghost use Rattle.memory.specs.Over.{over};

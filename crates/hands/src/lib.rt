@@ -1,5 +1,6 @@
 // The operation in a process's hand: where it begins, and which comes after it. Operations count from 1; N + 1 is none.
 #![tactic(auto)]
+
 ghost use Rattle.std.specs.Prelude.{◌≡◌, ◌+◌, ◌<◌, ◌≤◌, length};
 ghost use Rattle.job.specs.Stream.{«record_at»};
 ghost use Rattle.job.specs.Job.{«job_of»};

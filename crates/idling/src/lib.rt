@@ -1,6 +1,7 @@
 // Transmission windows in a stream: before a run, the entries of the steps outside their process's window are made idle ones, so that the run knows no
 // windows. Every window opens and closes at a whole minute, so who may act is found once a minute, and no step divides.
 #![tactic(auto)]
+
 ghost use Rattle.std.specs.Prelude.{◌≡◌, ℕ, ◌+◌, ◌≤◌, ◌<◌, false, true, length, get_or};
 ghost use Rattle.basics.specs.Maps.{at};
 ghost use Rattle.job.specs.Limits.{field};

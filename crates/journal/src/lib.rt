@@ -1,5 +1,6 @@
 // The journal of a run: what each operation did, kept in its row by a store or two a step. Cells hold step numbers or items.
 #![tactic(auto)]
+
 ghost use Rattle.std.specs.Prelude.{◌≡◌, ◌<◌, max, true, length};
 ghost use Rattle.basics.specs.Choice.{same};
 ghost use Rattle.basics.specs.Maps.{at, upd};

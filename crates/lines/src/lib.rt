@@ -1,5 +1,6 @@
 // The lines of a report, each laid at a place of lent memory.
 #![tactic(auto)]
+
 ghost use Rattle.std.specs.Prelude.{◌≡◌, ◌++◌, ◌+◌, ◌≤◌, ◌<◌, length};
 ghost use Rattle.basics.specs.Text.{text, decimal};
 ghost use Rattle.text.specs.Laid.{Wrote};

@@ -1,5 +1,6 @@
 // The place of one process goes on: a step stores its row and its registers, and touches nothing of the other seven.
 #![tactic(auto)]
+
 ghost use Rattle.std.specs.Prelude.{◌≡◌};
 ghost use Rattle.place.specs.Place.{onward};
 

@@ -1,5 +1,6 @@
 // Reading a job file: its blocks into the lent work memory, and what the table says of them.
 #![tactic(auto)]
+
 ghost use Rattle.std.specs.Prelude.{◌≡◌, ◌++◌, ◌+◌, ◌*◌, ◌≤◌, ◌<◌, length, take, drop};
 ghost use Rattle.basics.specs.Choice.{pick, same};
 ghost use Rattle.memory.specs.Over.{over};

@@ -1,5 +1,6 @@
 // Replays the job file on standard input, with the window block in the file that the argument names: prints its report, or `refused`, a space and the number.
 #![tactic(auto)]
+
 ghost use Rattle.io.specs.Counts.{IsPrefixLen};
 
 use block::Checked;

@@ -1,5 +1,6 @@
 // The replay of a job file: read, shut, run, report.
 #![tactic(auto)]
+
 ghost use Rattle.std.specs.Prelude.{◌≡◌, ◌≤◌, false, ◌++◌, length, take, drop};
 ghost use Rattle.job.specs.declared.Kind.TheVariants.{Queue};
 ghost use Rattle.job.specs.Limits.{most_stream, Sound};

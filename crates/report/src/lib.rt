@@ -1,5 +1,6 @@
 // The report of a finished run, from the rows and cells that it leaves.
 #![tactic(auto)]
+
 ghost use Rattle.std.specs.Prelude.{◌≡◌, ◌++◌, ◌+◌, ◌≤◌, ◌<◌, length};
 ghost use Rattle.basics.specs.Maps as Maps;
 ghost use Rattle.rows.specs.Nodes.{HasNodes, uppers};

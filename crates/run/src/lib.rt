@@ -1,5 +1,6 @@
 // The run of a job: every step of the schedule, in the order given, on fresh memory.
 #![tactic(auto)]
+
 ghost use Rattle.std.specs.Prelude.{◌≡◌, ◌+◌, ◌-◌, ◌≤◌, length};
 ghost use Rattle.job.specs.Job.{«job_of»};
 ghost use Rattle.machine.specs.Memory.{fresh_memory};

@@ -1,6 +1,7 @@
 // Salvages the spoiled job file on standard input: writes the proper file to standard output, then `kept A of B entries` to standard error; or only `refused`, a
 // space and the number to standard error.
 #![tactic(auto)]
+
 ghost use Rattle.std.specs.Prelude.{◌≤◌, length};
 ghost use Rattle.text.specs.Laid.{Wrote};
 ghost use Rattle.remains.specs.Line.{kept_line};

@@ -1,5 +1,6 @@
 // Salvaging a spoiled job file: its leading blocks into the lent work memory, the schedule shortened there, and a proper file written.
 #![tactic(auto)]
+
 ghost use Rattle.std.specs.Prelude.{◌≡◌, List, ℕ, ◌+◌, ◌*◌, ◌≤◌, ◌<◌, length, take, drop};
 ghost use Rattle.basics.specs.Choice.{pick, same};
 ghost use Rattle.memory.specs.Over.{over};

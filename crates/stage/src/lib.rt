@@ -1,5 +1,6 @@
 // What a report prints of a stage.
 #![tactic(auto)]
+
 ghost use Rattle.std.specs.Prelude.{◌≡◌, ◌++◌, ◌+◌, ◌≤◌, length, nat_abs};
 ghost use Rattle.text.specs.Laid.{Wrote};
 ghost use Rattle.stage.specs.Millimetres.{millimetres};

@@ -1,6 +1,7 @@
 // One step of a place: the row's access, and the row after it. Document 01: "A step is one read, one write or one compare-and-set of
 // shared memory, with the private work after it."
 #![tactic(auto)]
+
 ghost use Rattle.std.specs.Prelude.{◌≡◌, false};
 ghost use Rattle.machine.specs.declared.Access.TheVariants.{Link, TailToN};
 ghost use Rattle.machine.specs.Table.{successor, ended, is_return};

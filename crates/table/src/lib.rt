@@ -3,6 +3,7 @@
 // paper has one successor, both are that. The rows of each document stand in a constant of their own: of one with all 36, compiled
 // code would make a copy at every step.
 #![tactic(auto)]
+
 ghost use Rattle.std.specs.Prelude.{◌≡◌, false, ◌+◌, ◌<◌};
 ghost use Rattle.machine.specs.Table.{row_of, ended, «first_row»};
 ghost use Rattle.table.specs.Position.{entry_at};

@@ -1,5 +1,6 @@
 // The window block: its fields, and when it is turned back.
 #![tactic(auto)]
+
 ghost use Rattle.std.specs.Prelude.{◌≡◌, ◌+◌, ◌≤◌, ◌<◌, length};
 ghost use Rattle.basics.specs.Words.{word};
 ghost use Rattle.block.specs.Block.{block_size};

@@ -13,14 +13,14 @@ use Rattle.access.proofs.cut.Goals as goal
 
 pub returns-then-cell-c : goal.returns-then-cell-c
 unfolding access have_set reached_from reached_by memory_of event_of with_upper yes_if pick
-returns-then-cell-c c =     λ own.
+returns-then-cell-c c = λ own.
     let lower = c.cell-lower.ensures in
     let another = cell_is_not (uppers _) _ c.cell.ensures c.if-cell-c.true in
     rw c.answer.ensures (record { reaches = rw (sym lower, another); tells = refl })
 
 pub returns-then-cell-ne-LIVE : goal.returns-then-cell-ne-LIVE
 unfolding access have_set reached_from reached_by memory_of event_of with_upper yes_if pick
-returns-then-cell-ne-LIVE c =     λ own.
+returns-then-cell-ne-LIVE c = λ own.
     let lower = c.cell-lower.ensures in
     let holds = cell_is (uppers _) _ c.cell.ensures c.if-cell-c.false in
     let dead = cell_is_not (marks _) _ c.cell-2.ensures c.if-cell-ne-LIVE.true in
@@ -28,7 +28,7 @@ returns-then-cell-ne-LIVE c =     λ own.
 
 pub returns : goal.returns
 unfolding access have_set reached_from reached_by memory_of event_of with_upper yes_if pick
-returns c =     λ own.
+returns c = λ own.
     let lower = c.cell-lower.ensures in
     let holds = cell_is (uppers _) _ c.cell.ensures c.if-cell-c.false in
     let live = cell_is (marks _) _ c.cell-2.ensures c.if-cell-ne-LIVE.false in

@@ -15,6 +15,6 @@ returns-then-c c = λ own nodes. rw c.answer.ensures (record { reaches = rw (equ
 
 pub returns : goal.returns
 unfolding access have_set reached_from reached_by memory_of event_of with_head set_from_to yes_if pick
-returns c =     λ own nodes.
+returns c = λ own nodes.
     rw c.answer-2.ensures
     (record { reaches = rw (unequal_same c.if-c.false); tells = refl })

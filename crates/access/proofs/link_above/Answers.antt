@@ -13,18 +13,18 @@ use Rattle.access.proofs.link_above.Goals as goal
 
 pub returns-then-cell-ne-NONE : goal.returns-then-cell-ne-NONE
 unfolding access have_set reached_from reached_by memory_of event_of with_next with_upper yes_if pick
-returns-then-cell-ne-NONE c =     let some = cell_is_not (uppers _) _ c.cell.ensures c.if-cell-ne-NONE.true in
+returns-then-cell-ne-NONE c = let some = cell_is_not (uppers _) _ c.cell.ensures c.if-cell-ne-NONE.true in
     rw c.answer.ensures (record { reaches = rw some; tells = refl })
 
 pub returns-then-cell-ne-LIVE : goal.returns-then-cell-ne-LIVE
 unfolding access have_set reached_from reached_by memory_of event_of with_next with_upper yes_if pick
-returns-then-cell-ne-LIVE c =     let none = cell_is (uppers _) _ c.cell.ensures c.if-cell-ne-NONE.false in
+returns-then-cell-ne-LIVE c = let none = cell_is (uppers _) _ c.cell.ensures c.if-cell-ne-NONE.false in
     let dead = cell_is_not (marks _) _ c.cell-2.ensures c.if-cell-ne-LIVE.true in
     rw c.answer-then-cell-ne-LIVE.ensures (record { reaches = rw (none, dead); tells = refl })
 
 pub returns : goal.returns
 unfolding access have_set reached_from reached_by memory_of event_of with_next with_upper yes_if pick
-returns c =     let none = cell_is (uppers _) _ c.cell.ensures c.if-cell-ne-NONE.false in
+returns c = let none = cell_is (uppers _) _ c.cell.ensures c.if-cell-ne-NONE.false in
     let live = cell_is (marks _) _ c.cell-2.ensures c.if-cell-ne-LIVE.false in
     let above = upper_stored _ _ _ _ c.store.ensures in
     let below = next_stored _ _ _ _ c.store-2.ensures in

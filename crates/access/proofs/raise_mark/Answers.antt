@@ -10,6 +10,6 @@ use Rattle.access.proofs.raise_mark.Goals as goal
 
 pub returns : goal.returns
 unfolding access have_set reached_from reached_by memory_of event_of with_mark
-returns c =     λ own.
+returns c = λ own.
     let stored = mark_stored _ _ _ _ c.store.ensures in
     rw c.answer.ensures (record { reaches = rw (stored.0, stored.1, stored.2); tells = refl })

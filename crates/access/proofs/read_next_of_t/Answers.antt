@@ -8,6 +8,6 @@ use Rattle.access.proofs.read_next_of_t.Goals as goal
 
 pub returns : goal.returns
 unfolding access have_read reached_from reached_by memory_of event_of
-returns c =     λ own.
+returns c = λ own.
     rw (c.answer.ensures, c.yes_if_same-outcome.ensures, c.cell.ensures)
     (record { reaches = refl; tells = refl })

@@ -14,6 +14,6 @@ returns-then-c-eq-NONE c = λ own nodes. rw c.answer.ensures (record { reaches =
 
 pub returns : goal.returns
 unfolding access have_read reached_from reached_by memory_of event_of pick
-returns c =     λ own nodes.
+returns c = λ own nodes.
     rw c.answer-2.ensures
     (record { reaches = rw (unequal_same c.if-c-eq-NONE.false); tells = refl })

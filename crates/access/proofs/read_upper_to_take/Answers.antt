@@ -12,21 +12,21 @@ use Rattle.access.proofs.read_upper_to_take.Goals as goal
 
 pub returns-then-c-ne-NONE : goal.returns-then-c-ne-NONE
 unfolding access have_read reached_from reached_by memory_of event_of pick
-returns-then-c-ne-NONE c =     λ own.
+returns-then-c-ne-NONE c = λ own.
     let read = c.cell.ensures in
     let some = cell_is_not (uppers _) _ read c.if-c-ne-NONE.true in
     rw c.answer.ensures (record { reaches = rw (read, some); tells = refl })
 
 pub returns-then-c-eq-SENTINEL : goal.returns-then-c-eq-SENTINEL
 unfolding access have_read reached_from reached_by memory_of event_of pick
-returns-then-c-eq-SENTINEL c =     λ own.
+returns-then-c-eq-SENTINEL c = λ own.
     let read = c.cell.ensures in
     let none = cell_is (uppers _) _ read c.if-c-ne-NONE.false in
     rw c.answer-then-c-eq-SENTINEL.ensures (record { reaches = rw (read, none, equal_same c.if-c-eq-SENTINEL.true); tells = refl })
 
 pub returns : goal.returns
 unfolding access have_read reached_from reached_by memory_of event_of pick
-returns c =     λ own.
+returns c = λ own.
     let read = c.cell.ensures in
     let none = cell_is (uppers _) _ read c.if-c-ne-NONE.false in
     rw c.answer-2.ensures (record { reaches = rw (read, none, unequal_same c.if-c-eq-SENTINEL.false); tells = refl })

@@ -9,6 +9,6 @@ use Rattle.access.proofs.top_to_own.Goals as goal
 
 pub returns : goal.returns
 unfolding access have_set reached_from reached_by memory_of event_of with_top
-returns c =     λ nodes.
+returns c = λ nodes.
     rw (c.answer.ensures, c.set_from_to.ensures, c.yes_if_same-outcome.ensures)
     (record { reaches = refl; tells = refl })

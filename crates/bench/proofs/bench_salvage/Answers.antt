@@ -10,10 +10,10 @@ use Rattle.bench.proofs.Lengths.{salvage_small}
 use Rattle.bench.proofs.bench_salvage.Goals as goal
 
 pub pack-requires : goal.pack-requires
-pack-requires c =     subst (λ (n : ℕ). n < 2 ^ 32) (sym c.salvage-r.ensures.size) (salvage_small (given_field c.field.ensures) _ _ _)
+pack-requires c = subst (λ (n : ℕ). n < 2 ^ 32) (sym c.salvage-r.ensures.size) (salvage_small (given_field c.field.ensures) _ _ _)
 
 pub returns : goal.returns
-returns c =     let e = c.salvage-r.ensures in
+returns c = let e = c.salvage-r.ensures in
     let limits = c.field.ensures in
     let p = c.args in
     let claims = subst (λ (l : Limits). Claimed l p.file.now) limits (e.undamaged, (e.proper, e.answers)) in

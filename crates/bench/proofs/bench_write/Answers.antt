@@ -8,10 +8,10 @@ use Rattle.bench.proofs.Lengths.{write_small}
 use Rattle.bench.proofs.bench_write.Goals as goal
 
 pub pack-requires : goal.pack-requires
-pack-requires c =     subst (λ (n : ℕ). n < 2 ^ 32) (sym c.write.ensures.size) (write_small (given_field c.field.ensures) _ _)
+pack-requires c = subst (λ (n : ℕ). n < 2 ^ 32) (sym c.write.ensures.size) (write_small (given_field c.field.ensures) _ _)
 
 pub returns : goal.returns
-returns c =     let e = c.write.ensures in
+returns c = let e = c.write.ensures in
     let limits = c.field.ensures in
     let p = c.args in record { answer = c.pack.ensures ∙ (λ i. packed (e.number i) (e.size i)) ∙ (λ i. packed (write_number (limits i) p.stream.now p.out.now) (write_length (limits i) p.stream.now p.out.now)); out = e.out ∙ (λ i. write_out (limits i) p.stream.now p.out.now) }
 

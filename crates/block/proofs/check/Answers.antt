@@ -15,7 +15,7 @@ word_at-requires c = omega arith
 
 pub returns-then-word_at-s : goal.returns-then-word_at-s
 unfolding summed_size payload_size
-returns-then-word_at-s c =     let p = c.args in
+returns-then-word_at-s c = let p = c.args in
     sum_a_differs p.position p.b.now c.of-s.ensures c.word_at.ensures c.if-word_at-s.true
 
 pub word_at-requires-2 : goal.word_at-requires-2
@@ -24,7 +24,7 @@ word_at-requires-2 c = omega arith
 
 pub returns-then-word_at-s-2 : goal.returns-then-word_at-s-2
 unfolding summed_size payload_size
-returns-then-word_at-s-2 c =     let p = c.args in
+returns-then-word_at-s-2 c = let p = c.args in
     sum_b_differs p.position p.b.now c.of-s.ensures c.word_at-2.ensures c.if-word_at-s-2.true
 
 pub word_at-requires-3 : goal.word_at-requires-3
@@ -33,7 +33,7 @@ word_at-requires-3 c = omega arith
 
 pub returns-then-word_at-position : goal.returns-then-word_at-position
 unfolding summed_size payload_size
-returns-then-word_at-position c =     let p = c.args in
+returns-then-word_at-position c = let p = c.args in
     let own = c.of-s.ensures in
     place_differs p.position p.b.now
     (sym c.word_at.ensures ∙ c.if-word_at-s.false ∙ ap (λ (s : Sums). s.a) own)
@@ -42,7 +42,7 @@ returns-then-word_at-position c =     let p = c.args in
 
 pub returns : goal.returns
 unfolding summed_size payload_size
-returns c =     let own = c.of-s.ensures in
+returns c = let own = c.of-s.ensures in
     good_accepted (record {
       sum_a = sym c.word_at.ensures ∙ c.if-word_at-s.false ∙ ap (λ (s : Sums). s.a) own;
       sum_b = sym c.word_at-2.ensures ∙ c.if-word_at-s-2.false ∙ ap (λ (s : Sums). s.b) own;

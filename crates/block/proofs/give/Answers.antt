@@ -10,7 +10,7 @@ use Rattle.block.specs.Block.{block_size, payload_size, payload_of}
 use Rattle.block.proofs.give.Goals as goal
 
 pub returns-in_default : goal.returns-in_default
-returns-in_default c =     let p = c.args in
+returns-in_default c = let p = c.args in
     let r : Checked = c.check-answer.result in
     record { number = c.check-answer.ensures; payload = sym (ap (λ (x : List ℕ). over x p.to.now) (refused_bytes r p.b.now (refused_number r c.in_default.not-Payload))) }
 
@@ -24,5 +24,5 @@ copy-requires c = omega (arith, length_part c.args.b.now 2 payload_size (omega a
 
 pub returns : goal.returns
 unfolding bytes_of payload_of payload_size
-returns c =     let p = c.args in
+returns c = let p = c.args in
     record { number = c.check-answer.ensures; payload = c.copy.ensures ∙ ap (λ (r : Checked). over (bytes_of r p.b.now) p.to.now) (sym c.in-Payload.is) }

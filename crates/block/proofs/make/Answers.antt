@@ -32,10 +32,10 @@ slice_bounds-put_sums-start c = omega arith
 
 pub put_sums-requires : goal.put_sums-requires
 unfolding block_size summed_size payload_size
-put_sums-requires c =     let m = c.put_front.new.to in
+put_sums-requires c = let m = c.put_front.new.to in
     omega (arith, length_part m summed_size (length m - summed_size) (omega arith))
 
 pub returns : goal.returns
 unfolding block_size payload_size summed_size
-returns c =     let p = c.args in
+returns c = let p = c.args in
     block_over p.to.now c.put_front.new.to c.put_sums.new.to p.number (filled p.payload.now) (length_filled p.payload.now c.requires.1) (omega arith) c.put_front.ensures c.of-s.ensures c.put_sums.ensures

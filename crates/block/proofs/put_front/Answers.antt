@@ -22,11 +22,11 @@ slice_bounds-put_payload-start c = omega arith
 
 pub put_payload-requires : goal.put_payload-requires
 unfolding summed_size
-put_payload-requires c =     let m = c.put_word.new.to in
+put_payload-requires c = let m = c.put_word.new.to in
     (omega (arith, length_part m 2 (length m - 2) (omega arith)), omega arith)
 
 pub returns : goal.returns
 unfolding word_bytes summed_size
-returns c =     let p = c.args in
+returns c = let p = c.args in
     let size : length (filled p.payload.now) ≡ payload_size = length_filled p.payload.now (omega arith) in
     over_behind p.to.now (word_bytes p.number) (filled p.payload.now) c.put_word.new.to c.put_payload.new.to 2 c.put_word.ensures refl (omega arith) c.put_payload.ensures

@@ -22,7 +22,7 @@ slice_bounds-clear-end c = omega arith
 
 pub returns : goal.returns
 unfolding filled payload_size
-returns c =     let p = c.args in
+returns c = let p = c.args in
     let n : ℕ = length p.payload.now in
     let k : ℕ = payload_size - n in
     let m : List ℕ = c.copy.new.to in

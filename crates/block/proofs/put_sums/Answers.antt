@@ -6,5 +6,5 @@ use Rattle.block.proofs.put_sums.Goals as goal
 
 pub returns : goal.returns
 unfolding word_bytes
-returns c =     let p = c.args in
+returns c = let p = c.args in
     over_behind p.to.now (word_bytes p.s.a) (word_bytes p.s.b) c.put_word.new.to c.put_word-2.new.to 2 c.put_word.ensures refl (omega arith) c.put_word-2.ensures

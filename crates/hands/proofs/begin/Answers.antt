@@ -6,6 +6,6 @@ use Rattle.hands.proofs.begin.Goals as goal
 
 pub returns : goal.returns
 unfolding before
-returns c =     let of = c.requires.2 in
+returns c = let of = c.requires.2 in
     let row = c.first_row-row.ensures ∙ (λ i. first_row (of i) (c.puts.ensures i)) in
     λ i. record { operation = c.args.o; row = row i; h = 0; t = 0; n = 0 }

@@ -9,13 +9,13 @@ use Rattle.std.proofs.Common.{rules}
 use Rattle.hands.proofs.next_operation.Goals as goal
 
 pub owner-q-requires : goal.owner-q-requires
-owner-q-requires c =     has_record _ c.requires.0 c.requires.1 (omega arith)
+owner-q-requires c = has_record _ c.requires.0 c.requires.1 (omega arith)
 
 pub returns-then-q-p : goal.returns-then-q-p
-returns-then-q-p c =     sym (search_begins _ _ _ (omega arith) ∙ c.loop-i.invariant.1 ∙ search_finds _ _ _ (omega arith) (sym c.owner-q.ensures ∙ c.if-q-p.true))
+returns-then-q-p c = sym (search_begins _ _ _ (omega arith) ∙ c.loop-i.invariant.1 ∙ search_finds _ _ _ (omega arith) (sym c.owner-q.ensures ∙ c.if-q-p.true))
 
 pub loop-i-preserved : goal.loop-i-preserved
-loop-i-preserved c =     (search rules, c.loop-i.invariant.1 ∙ search_passes _ _ _ (omega arith) (λ e. c.if-q-p.false (c.owner-q.ensures ∙ e)))
+loop-i-preserved c = (search rules, c.loop-i.invariant.1 ∙ search_passes _ _ _ (omega arith) (λ e. c.if-q-p.false (c.owner-q.ensures ∙ e)))
 
 pub returns : goal.returns
 returns c = sym (search_begins _ _ _ (omega arith) ∙ c.loop-i.invariant.1 ∙ search_ends _ _ _ (omega arith))

@@ -8,7 +8,7 @@ use Rattle.idling.proofs.Eight.{Filled}
 use Rattle.idling.proofs.allowed_at.Given as goal
 
 abbrev pub invariant-loop-p : goal.invariant-loop-p
-invariant-loop-p l =     (l.p ≤ field.processes) × Filled false (λ q. open_at (get_or l.bookings.windows q no_window) l.minute) l.p l.allowed.processes
+invariant-loop-p l = (l.p ≤ field.processes) × Filled false (λ q. open_at (get_or l.bookings.windows q no_window) l.minute) l.p l.allowed.processes
 
 abbrev pub decreases-loop-p : goal.decreases-loop-p
 decreases-loop-p l = field.processes - l.p

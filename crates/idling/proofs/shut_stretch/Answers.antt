@@ -11,7 +11,7 @@ use Rattle.idling.proofs.Stretch.{stretch_open, stretch_ahead, stretch_next}
 use Rattle.idling.proofs.shut_stretch.Goals as goal
 
 pub returns-then-all_allowed : goal.returns-then-all_allowed
-returns-then-all_allowed c =     stretch_open _ _ (c.all_allowed.ensures c.if-all_allowed.true) c.requires.by_index
+returns-then-all_allowed c = stretch_open _ _ (c.all_allowed.ensures c.if-all_allowed.true) c.requires.by_index
 
 pub loop-i-init : goal.loop-i-init
 loop-i-init c = (omega arith, omega arith, rewritten_none _ _ _)
@@ -21,11 +21,11 @@ bounds-s-i c = omega (arith, c.loop-i.invariant.2.size)
 
 pub kept-requires : goal.kept-requires
 unfolding at
-kept-requires c =     let inv = c.loop-i.invariant in
+kept-requires c = let inv = c.loop-i.invariant in
     (c.requires.processes_len.0, subst (λ (n : ℕ). process_of (slot_of n) < field.processes) (sym (stretch_ahead _ inv.2)) (c.requires.by_index _ inv.0 c.loop-i-test.true))
 
 pub loop-i-preserved : goal.loop-i-preserved
-loop-i-preserved c =     let inv = c.loop-i.invariant in
+loop-i-preserved c = let inv = c.loop-i.invariant in
     (omega arith, omega arith, stretch_next _ inv.2 inv.0 (omega (arith, inv.2.size)) c.kept.ensures)
 
 pub returns : goal.returns

@@ -23,12 +23,12 @@ pub has_weekday-requires-3 : goal.has_weekday-requires-3
 has_weekday-requires-3 c = after_bound (start_bound _ c.requires.2) c.weekday_after.ensures
 
 pub closes-requires : goal.closes-requires
-closes-requires c =     let pre = c.requires in
+closes-requires c = let pre = c.requires in
     omega (arith, c.closing-to.ensures, pre.0.closes _ pre.1)
 
 pub returns : goal.returns
 unfolding window_of
-returns c =     let from = c.opening-from.ensures in
+returns c = let from = c.opening-from.ensures in
     let to = c.closing-to.ensures in
     let days = c.weekdays-days.ensures in
     let w = c.requires.2 in

@@ -10,7 +10,7 @@ use Rattle.journal.proofs.enter_end.Goals as goal
 
 pub returns-then-ends : goal.returns-then-ends
 unfolding closed
-returns-then-ends c =     cells_stored Last _ _ _ _
+returns-then-ends c = cells_stored Last _ _ _ _
     (stored_as _ _ _ c.store.ensures (sym (pick_then _ _ c.if-ends.true)))
 
 pub returns-else-ends : goal.returns-else-ends

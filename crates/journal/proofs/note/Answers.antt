@@ -9,11 +9,11 @@ use Rattle.journal.proofs.note.Goals as goal
 
 pub note_move-requires : goal.note_move-requires
 unfolding item_of
-note_move-requires c =     (c.requires.own_row, subst (λ e. HasOps (item_of e) c.args.ops.now) c.in-Moved.is c.requires.item_row)
+note_move-requires c = (c.requires.own_row, subst (λ e. HasOps (item_of e) c.args.ops.now) c.in-Moved.is c.requires.item_row)
 
 pub note_raise-requires : goal.note_raise-requires
 unfolding item_of
-note_raise-requires c =     (c.requires.own_row, subst (λ e. HasOps (item_of e) c.args.ops.now) c.in-Raised.is c.requires.item_row)
+note_raise-requires c = (c.requires.own_row, subst (λ e. HasOps (item_of e) c.args.ops.now) c.in-Raised.is c.requires.item_row)
 
 pub returns-in-Quiet : goal.returns-in-Quiet
 unfolding noted
@@ -37,5 +37,5 @@ returns-in-Late c = rw c.in-Late.is (cells_stored Taken _ _ _ _ c.store-in-Late.
 
 pub returns-in-Raised : goal.returns-in-Raised
 unfolding noted
-returns-in-Raised c =     rw c.in-Raised.is
+returns-in-Raised c = rw c.in-Raised.is
     (rw (← c.cell.ensures) c.note_raise.ensures)

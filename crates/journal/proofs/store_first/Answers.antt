@@ -5,4 +5,4 @@ use Rattle.journal.proofs.Stores.{stored_as}
 use Rattle.journal.proofs.store_first.Goals as goal
 
 pub returns : goal.returns
-returns c =     stored_as _ _ _ c.store.ensures (c.earlier-first.ensures ∙ ap (λ old. earlier old c.args.k.0) c.cell-old.ensures)
+returns c = stored_as _ _ _ c.store.ensures (c.earlier-first.ensures ∙ ap (λ old. earlier old c.args.k.0) c.cell-old.ensures)

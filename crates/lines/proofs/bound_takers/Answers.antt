@@ -8,13 +8,13 @@ use Rattle.std.proofs.Common.{rules}
 use Rattle.lines.proofs.bound_takers.Goals as goal
 
 pub store-requires : goal.store-requires
-store-requires c =     (search rules, omega (arith, item_within _ c.loop-o.invariant.0 c.cell.ensures (omega arith) (omega arith)))
+store-requires c = (search rules, omega (arith, item_within _ c.loop-o.invariant.0 c.cell.ensures (omega arith) (omega arith)))
 
 pub store-requires-in-loop-o : goal.store-requires-in-loop-o
-store-requires-in-loop-o c =     (search rules, omega (arith, item_within _ c.loop-o.invariant.0 c.cell-in-loop-o.ensures (omega arith) (omega arith)))
+store-requires-in-loop-o c = (search rules, omega (arith, item_within _ c.loop-o.invariant.0 c.cell-in-loop-o.ensures (omega arith) (omega arith)))
 
 pub loop-o-preserved : goal.loop-o-preserved
-loop-o-preserved c =     (bounded_more _ _ _ _ c.loop-o.invariant.0 (search rules) (search rules) c.store.ensures (search rules) c.store-in-loop-o.ensures (omega arith), omega arith)
+loop-o-preserved c = (bounded_more _ _ _ _ c.loop-o.invariant.0 (search rules) (search rules) c.store.ensures (search rules) c.store-in-loop-o.ensures (omega arith), omega arith)
 
 pub loop-o-init : goal.loop-o-init
 loop-o-init c = (bounded_none (search rules), refl)

@@ -13,18 +13,18 @@ use Rattle.lines.proofs.lay.Goals as goal
 
 pub take_line-requires : goal.take_line-requires
 unfolding member
-take_line-requires c =     let start = c.args in
+take_line-requires c = let start = c.args in
     let is = c.in-Takers.is in
     (search rules, omega (arith, ap member is), omega (arith, ap length (found_takers (cells start.ops.now Taken) start.count start.s.0 _ is)))
 
 pub single_line-requires : goal.single_line-requires
 unfolding text
-single_line-requires c =     let start = c.args in
+single_line-requires c = let start = c.args in
     omega (arith, ap length (found_put (cells start.ops.now Taken) start.count start.s.0 _ c.in-Put.is))
 
 pub single_line-requires-in-Empty : goal.single_line-requires-in-Empty
 unfolding text
-single_line-requires-in-Empty c =     let start = c.args in
+single_line-requires-in-Empty c = let start = c.args in
     omega (arith, ap length (found_empty (cells start.ops.now Taken) start.count start.s.0 _ c.in-Empty.is))
 
 pub returns-in-Nothing : goal.returns-in-Nothing

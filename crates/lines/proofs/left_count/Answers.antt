@@ -6,10 +6,10 @@ use Rattle.std.proofs.Common.{rules}
 use Rattle.lines.proofs.left_count.Goals as goal
 
 pub loop-walked-preserved-then-stays : goal.loop-walked-preserved-then-stays
-loop-walked-preserved-then-stays c =     counting_more c.loop-walked.invariant (record { asked = search rules; some = search rules; goes = search rules; told = search rules }) c.if-stays.true
+loop-walked-preserved-then-stays c = counting_more c.loop-walked.invariant (record { asked = search rules; some = search rules; goes = search rules; told = search rules }) c.if-stays.true
 
 pub loop-walked-preserved : goal.loop-walked-preserved
-loop-walked-preserved c =     counting_past c.loop-walked.invariant (record { asked = search rules; some = search rules; goes = search rules; told = search rules }) c.if-stays.false
+loop-walked-preserved c = counting_past c.loop-walked.invariant (record { asked = search rules; some = search rules; goes = search rules; told = search rules }) c.if-stays.false
 
 pub loop-walked-init : goal.loop-walked-init
 loop-walked-init c = counting_none _ (search rules)

@@ -11,7 +11,7 @@ use Rattle.std.proofs.Common.{rules}
 use Rattle.lines.proofs.put_answer.Goals as goal
 
 pub put_item-requires : goal.put_item-requires
-put_item-requires c =     let item = c.cell-item.ensures in
+put_item-requires c = let item = c.cell-item.ensures in
     (subst (HasRecord _) (sym item) c.requires.0.item_record, omega (arith, ap length (answer_of_item (job_of c.args.stream.now) _ _ (omega arith) item (search rules))))
 
 pub put_bytes-requires : goal.put_bytes-requires

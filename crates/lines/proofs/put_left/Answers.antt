@@ -6,13 +6,13 @@ use Rattle.std.proofs.Common.{rules}
 use Rattle.lines.proofs.put_left.Goals as goal
 
 pub put_spaced-place-requires : goal.put_spaced-place-requires
-put_spaced-place-requires c =     leaving_room c.loop-walked.invariant (record { asked = search rules; some = search rules; goes = c.cell-i.ensures; told = search rules }) c.if-stays.true
+put_spaced-place-requires c = leaving_room c.loop-walked.invariant (record { asked = search rules; some = search rules; goes = c.cell-i.ensures; told = search rules }) c.if-stays.true
 
 pub loop-walked-preserved-then-stays : goal.loop-walked-preserved-then-stays
-loop-walked-preserved-then-stays c =     leaving_more c.loop-walked.invariant (record { asked = search rules; some = search rules; goes = search rules; told = search rules }) c.if-stays.true (search rules)
+loop-walked-preserved-then-stays c = leaving_more c.loop-walked.invariant (record { asked = search rules; some = search rules; goes = search rules; told = search rules }) c.if-stays.true (search rules)
 
 pub loop-walked-preserved : goal.loop-walked-preserved
-loop-walked-preserved c =     leaving_past c.loop-walked.invariant (record { asked = search rules; some = search rules; goes = search rules; told = search rules }) c.if-stays.false
+loop-walked-preserved c = leaving_past c.loop-walked.invariant (record { asked = search rules; some = search rules; goes = search rules; told = search rules }) c.if-stays.false
 
 pub loop-walked-init : goal.loop-walked-init
 loop-walked-init c = leaving_none _ (search rules) (search rules)

@@ -12,19 +12,19 @@ use Rattle.std.proofs.Common.{rules}
 use Rattle.lines.proofs.put_takers.Goals as goal
 
 pub loop-o-init : goal.loop-o-init
-loop-o-init c =     skipped c.requires.0 c.args.item.0 (written_none _ _ _ _ (omega (arith, ap length (takers_each c.args.ops.now c.args.count c.args.item.0)))) c.cell-o.ensures (small_bound c.requires.0 _ _ c.cell-o.ensures) refl
+loop-o-init c = skipped c.requires.0 c.args.item.0 (written_none _ _ _ _ (omega (arith, ap length (takers_each c.args.ops.now c.args.count c.args.item.0)))) c.cell-o.ensures (small_bound c.requires.0 _ _ c.cell-o.ensures) refl
 
 pub loop-o-preserved-then-cell-item : goal.loop-o-preserved-then-cell-item
 loop-o-preserved-then-cell-item c = written_same c.loop-o.invariant (omega arith) (taker_out _ _ c.cell-in-loop-o.ensures c.if-cell-item.true)
 
 pub put_spaced-place-requires : goal.put_spaced-place-requires
-put_spaced-place-requires c =     omega (arith, ap length (taker_in _ _ c.cell-in-loop-o.ensures c.if-cell-item.false), written_room c.loop-o.invariant (omega arith))
+put_spaced-place-requires c = omega (arith, ap length (taker_in _ _ c.cell-in-loop-o.ensures c.if-cell-item.false), written_room c.loop-o.invariant (omega arith))
 
 pub loop-o-preserved : goal.loop-o-preserved
-loop-o-preserved c =     written_more c.loop-o.invariant (omega arith) (wrote_as (taker_in _ _ c.cell-in-loop-o.ensures c.if-cell-item.false) (search rules))
+loop-o-preserved c = written_more c.loop-o.invariant (omega arith) (wrote_as (taker_in _ _ c.cell-in-loop-o.ensures c.if-cell-item.false) (search rules))
 
 pub returns : goal.returns
-returns c =     wrote_as (takers_each _ _ _) (written_all (past_bound c.requires.0 c.args.item.0 c.loop-o.invariant c.cell.ensures c.loop-o-test.false) (omega arith))
+returns c = wrote_as (takers_each _ _ _) (written_all (past_bound c.requires.0 c.args.item.0 c.loop-o.invariant c.cell.ensures c.loop-o-test.false) (omega arith))
 
 pub overflow_sub-end : goal.overflow_sub-end
 overflow_sub-end c = omega (arith, small_bound c.requires.0 _ _ c.cell.ensures)

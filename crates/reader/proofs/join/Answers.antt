@@ -20,7 +20,7 @@ pub shape_of-work-in_default : goal.shape_of-work-in_default
 shape_of-work-in_default c = omega (arith, c.take_block-answer.auto.work)
 
 pub returns-in_default : goal.returns-in_default
-returns-in_default c =     let j = c.loop-i.invariant in
+returns-in_default c = let j = c.loop-i.invariant in
     let t = c.take_block-answer in
     let refused = refused_number t.result c.in_default.not-Payload in
     let p = c.args in
@@ -28,7 +28,7 @@ returns-in_default c =     let j = c.loop-i.invariant in
 
 pub loop-i-preserved : goal.loop-i-preserved
 unfolding payload_size
-loop-i-preserved c =     let t = c.take_block-answer in
+loop-i-preserved c = let t = c.take_block-answer in
     joining_next c.loop-i.invariant c.loop-i-test.true t.result (t.ensures.number, t.ensures.payload) c.requires.1 (omega arith) c.in-Payload.is
 
 pub shape_of-work : goal.shape_of-work
@@ -36,6 +36,6 @@ shape_of-work c = c.loop-i.invariant.laid.size
 
 pub returns : goal.returns
 unfolding payload_size
-returns c =     let j = c.loop-i.invariant in
+returns c = let j = c.loop-i.invariant in
     let done = c.loop-i-test.false in
     record { number = all_accepted j done; joined = (λ z. all_joined j done (omega arith)); behind = joining_behind j }

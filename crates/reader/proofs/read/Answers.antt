@@ -8,7 +8,7 @@ use native.Mathlib.Omega.{arith}
 use Rattle.reader.proofs.read.Goals as goal
 
 pub returns-then-work-end : goal.returns-then-work-end
-returns-then-work-end c =     let e = c.refused.ensures in
+returns-then-work-end c = let e = c.refused.ensures in
     let p = c.args in
     let small : length p.work.now < most_stream p.limits = omega (arith, c.if-work-end.true, c.most_stream-end.ensures) in
     record { number = e.0 ∙ small_number p.limits p.file.now p.work.now small; size = e.1 ∙ small_length p.limits p.file.now p.work.now small; work = small_left p.limits p.file.now p.work.now small }
@@ -17,7 +17,7 @@ pub load-r-requires : goal.load-r-requires
 load-r-requires c = (c.requires, omega (arith, c.most_stream-end.ensures))
 
 pub returns : goal.returns
-returns c =     let p = c.args in
+returns c = let p = c.args in
     let work = c.load-r.new.work in
     let large : most_stream p.limits ≤ length p.work.now = omega (arith, c.if-work-end.false, c.most_stream-end.ensures) in
     record {

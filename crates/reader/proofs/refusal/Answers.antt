@@ -16,19 +16,19 @@ unfolding payload_size
 exact_count-requires c = omega arith
 
 pub returns-then-exact_count-count : goal.returns-then-exact_count-count
-returns-then-exact_count-count c =     past_header _ _ _ c.header-of_header.ensures c.if-of_header-ne0.false (count_decides _ _ c.exact_count.ensures c.if-exact_count-count.true)
+returns-then-exact_count-count c = past_header _ _ _ c.header-of_header.ensures c.if-of_header-ne0.false (count_decides _ _ c.exact_count.ensures c.if-exact_count-count.true)
 
 pub returns-then-of_lists-ne0 : goal.returns-then-of_lists-ne0
-returns-then-of_lists-ne0 c =     past_header _ _ _ c.header-of_header.ensures c.if-of_header-ne0.false
+returns-then-of_lists-ne0 c = past_header _ _ _ c.header-of_header.ensures c.if-of_header-ne0.false
     (past_count _ _ c.exact_count.ensures c.if-exact_count-count.false (lists_decide _ c.lists-of_lists.ensures c.if-of_lists-ne0.true))
 
 pub returns-then-bad_padding : goal.returns-then-bad_padding
-returns-then-bad_padding c =     past_header _ _ _ c.header-of_header.ensures c.if-of_header-ne0.false
+returns-then-bad_padding c = past_header _ _ _ c.header-of_header.ensures c.if-of_header-ne0.false
     (past_count _ _ c.exact_count.ensures c.if-exact_count-count.false
     (past_lists _ c.lists-of_lists.ensures c.if-of_lists-ne0.false (met_here 12 [] (sym c.bad_padding.ensures ∙ c.if-bad_padding.true))))
 
 pub returns : goal.returns
-returns c =     past_header _ _ _ c.header-of_header.ensures c.if-of_header-ne0.false
+returns c = past_header _ _ _ c.header-of_header.ensures c.if-of_header-ne0.false
     (past_count _ _ c.exact_count.ensures c.if-exact_count-count.false
     (past_lists _ c.lists-of_lists.ensures c.if-of_lists-ne0.false (met_later 12 [] (sym c.bad_padding.ensures ∙ c.if-bad_padding.false) met_none)))
 

@@ -28,15 +28,18 @@ slice_bounds-give-start-2 c = omega arith
 
 pub give-requires : goal.give-requires
 unfolding block_size payload_size
-give-requires c =     let p = c.args in
+give-requires c = let p = c.args in
     (ap length (block_part p.file.now p.i) ∙ length_block_at p.file.now p.i (omega arith), omega (arith, length_part p.work.now (payload_size * p.i) (length p.work.now - payload_size * p.i) (omega arith)))
 
 pub returns : goal.returns
 unfolding block_size payload_size
-returns c =     let p = c.args in
+returns c = let p = c.args in
     let r : Checked = c.give.result in
     let work : List ℕ = p.work.now in
     let b : List ℕ = block_at p.file.now p.i in
     let given : length (bytes_of r b) ≤ payload_size = length_given r b (length_block_at p.file.now p.i (omega arith)) in
-    let is_Block = block_part p.file.now p.i in record { number = c.give.ensures.number ∙ ap (block_refusal p.i) is_Block; payload = part_over work (bytes_of r b) c.give.new.to (payload_size * p.i) (length work - payload_size * p.i) (omega arith)
-          (c.give.ensures.payload ∙ ap (λ (x : List ℕ). over (bytes_of r x) (take (length work - payload_size * p.i) (drop (payload_size * p.i) work))) is_Block) }
+    let is_Block = block_part p.file.now p.i in record {
+      number = c.give.ensures.number ∙ ap (block_refusal p.i) is_Block;
+      payload = part_over work (bytes_of r b) c.give.new.to (payload_size * p.i) (length work - payload_size * p.i) (omega arith)
+          (c.give.ensures.payload ∙ ap (λ (x : List ℕ). over (bytes_of r x) (take (length work - payload_size * p.i) (drop (payload_size * p.i) work))) is_Block);
+    }

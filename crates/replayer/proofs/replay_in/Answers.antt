@@ -33,12 +33,11 @@ left_by_run {nodes' = nodes'} {ops'} {by'} r lent kept ran behind rounds =
     }
 
 pub run_all-end-requires : goal.run_all-end-requires
-run_all-end-requires c =     record { runnable = record { ready = c.requires.ready.0; told = c.heading_of-job.ensures }; room = c.requires.room }
+run_all-end-requires c = record { runnable = record { ready = c.requires.ready.0; told = c.heading_of-job.ensures }; room = c.requires.room }
 
 pub write_report-requires : goal.write_report-requires
 write_report-requires c =
-    let kept = c.run_all-end.auto in
-    (
+    let kept = c.run_all-end.auto in (
       c.requires.ready.0.whole,
       c.requires.ready.1,
       left_by_run (record { ready = c.requires.ready.0; told = c.heading_of-job.ensures }) c.requires.room.0

@@ -8,4 +8,4 @@ use Rattle.std.proofs.Common.{rules}
 use Rattle.report.proofs.record_lines.Goals as goal
 
 pub bound_takers-requires : goal.bound_takers-requires
-bound_takers-requires c =     record { has_ops = search rules; has_bounds = omega arith; items = c.requires.1.items; small = zeros_within (place bound_width field.operations bound_width) _ }
+bound_takers-requires c = record { has_ops = search rules; has_bounds = omega arith; items = c.requires.1.items; small = zeros_within (place bound_width field.operations bound_width) _ }

@@ -8,7 +8,7 @@ use Rattle.report.proofs.Found.{step_text}
 use Rattle.report.proofs.step_lines.Given as goal
 
 abbrev pub invariant-loop-s : goal.invariant-loop-s
-invariant-loop-s l =     Written (step_text (cells l.ops) (Maps.at l.by) l.count) l.reach.0 l.s l.initial.out l.out l.at l.place
+invariant-loop-s l = Written (step_text (cells l.ops) (Maps.at l.by) l.count) l.reach.0 l.s l.initial.out l.out l.at l.place
 
 abbrev pub decreases-loop-s : goal.decreases-loop-s
 decreases-loop-s l = l.reach.0 - l.s

@@ -19,7 +19,7 @@ first-is : {stream : List ℕ} {job : Heading} {r : Place} → Runnable stream j
 first-is {stream} r e = lined_first _ (free r) _ (e ∙ ap (λ (n : ℕ). before (job_of stream) (operation_after (job_of stream) nobody n)) (its_count r))
 
 pub loop-p-preserved : goal.loop-p-preserved
-loop-p-preserved c =     (omega arith, lined_next _ _ _ _ (omega arith) c.loop-p.invariant.1 c.place_after-place.ensures)
+loop-p-preserved c = (omega arith, lined_next _ _ _ _ (omega arith) c.loop-p.invariant.1 c.place_after-place.ensures)
 
 pub returns : goal.returns
 returns c = lined_all _ _ (omega arith) c.loop-p.invariant.1

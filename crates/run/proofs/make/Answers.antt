@@ -29,11 +29,14 @@ step-there {o = o} k {ops = ops} some there n kept first = (
 )
 
 pub step-s-requires : goal.step-s-requires
-step-s-requires c =     let start = c.requires in
+step-s-requires c = let start = c.requires in
     record { row_value = (start.going, start.inside); has_cells = step-there _ start.some start.noting start.counting c.enter.auto.ops c.enter.ensures.ops_after }
 
 pub returns : goal.returns
-returns c =     let enter = c.enter.ensures in record { step = c.step-s.ensures.step; stored = record {
-        cells_stored = in-turn _ _ _ _ _ enter.ops_after c.step-s.ensures.ops_after c.enter_end.ensures c.has_ended.ensures;
-        by_stored = enter.by_after;
-      } }
+returns c = let enter = c.enter.ensures in record {
+  step = c.step-s.ensures.step;
+  stored = record {
+    cells_stored = in-turn _ _ _ _ _ enter.ops_after c.step-s.ensures.ops_after c.enter_end.ensures c.has_ended.ensures;
+    by_stored = enter.by_after;
+  };
+}

@@ -7,10 +7,10 @@ use Rattle.run.proofs.Places.{counted_none, counted_one, counted_all}
 use Rattle.run.proofs.working.Goals as goal
 
 pub loop-p-preserved-then-count-o : goal.loop-p-preserved-then-count-o
-loop-p-preserved-then-count-o c =     (omega arith, omega arith, counted_none _ _ c.requires _ _ c.loop-p-test.true c.if-count-o.true c.loop-p.invariant.2)
+loop-p-preserved-then-count-o c = (omega arith, omega arith, counted_none _ _ c.requires _ _ c.loop-p-test.true c.if-count-o.true c.loop-p.invariant.2)
 
 pub loop-p-preserved : goal.loop-p-preserved
-loop-p-preserved c =     (omega arith, omega arith, counted_one _ _ c.requires _ _ c.loop-p-test.true c.if-count-o.false c.loop-p.invariant.2)
+loop-p-preserved c = (omega arith, omega arith, counted_one _ _ c.requires _ _ c.loop-p-test.true c.if-count-o.false c.loop-p.invariant.2)
 
 pub returns : goal.returns
 returns c = counted_all _ _ c.requires _ _ c.loop-p-test.false c.loop-p.invariant.2

@@ -19,7 +19,7 @@ shape_of-work-in_default c = omega (arith, c.take_block-answer.auto.work, c.loop
 
 pub returns-in_default : goal.returns-in_default
 unfolding payload_size
-returns-in_default c =     let g = c.loop-i.invariant in
+returns-in_default c = let g = c.loop-i.invariant in
     let t = c.take_block-answer in
     let refused = refused_number t.result c.in_default.not-Payload in
     let more = c.loop-i-test.true in
@@ -27,7 +27,7 @@ returns-in_default c =     let g = c.loop-i.invariant in
 
 pub loop-i-preserved : goal.loop-i-preserved
 unfolding payload_size
-loop-i-preserved c =     let t = c.take_block-answer in
+loop-i-preserved c = let t = c.take_block-answer in
     gathering_next c.loop-i.invariant c.loop-i-test.true t.result (t.ensures.number, t.ensures.payload) c.requires.1 (omega arith) c.in-Payload.is
 
 pub shape_of-work : goal.shape_of-work
@@ -35,6 +35,6 @@ shape_of-work c = c.loop-i.invariant.laid.size
 
 pub returns : goal.returns
 unfolding payload_size
-returns c =     let g = c.loop-i.invariant in
+returns c = let g = c.loop-i.invariant in
     let done = c.loop-i-test.false in
     record { count = all_counted g done; payloads = all_left g done (omega arith) }

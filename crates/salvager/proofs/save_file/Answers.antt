@@ -17,25 +17,25 @@ use Rattle.salvager.proofs.save_file.Goals as goal
 
 pub gather-n-requires : goal.gather-n-requires
 unfolding block_size payload_size most_stream
-gather-n-requires c =     (omega (arith, c.smaller-count.ensures, c.requires.0.blocks_fit), omega (arith, c.smaller-count.ensures), omega (arith, c.smaller-count.ensures, c.requires.1))
+gather-n-requires c = (omega (arith, c.smaller-count.ensures, c.requires.0.blocks_fit), omega (arith, c.smaller-count.ensures), omega (arith, c.smaller-count.ensures, c.requires.1))
 
 pub overflow_mul-end : goal.overflow_mul-end
-overflow_mul-end c =     let p = c.args in
+overflow_mul-end c = let p = c.args in
     record { fits = omega (arith, c.gather-n.ensures.count, leading_le p.file.now 0 c.smaller-count.result, c.smaller-count.ensures, c.requires.0.blocks_fit) }
 
 pub slice_bounds-save-end : goal.slice_bounds-save-end
 unfolding most_stream payload_size
-slice_bounds-save-end c =     let p = c.args in
+slice_bounds-save-end c = let p = c.args in
     omega (arith, c.gather-n.auto.work, c.gather-n.ensures.count, leading_le p.file.now 0 c.smaller-count.result, c.smaller-count.ensures, c.requires.1)
 
 pub slice_bounds-save-end-2 : goal.slice_bounds-save-end-2
 unfolding most_stream payload_size
-slice_bounds-save-end-2 c =     let p = c.args in
+slice_bounds-save-end-2 c = let p = c.args in
     sym (length-take-le _ c.gather-n.new.work (omega (arith, c.gather-n.auto.work, c.gather-n.ensures.count, leading_le p.file.now 0 c.smaller-count.result, c.smaller-count.ensures, c.requires.1)))
 
 pub returns : goal.returns
 unfolding most_stream payload_size block_size block_count looked
-returns c =     let p = c.args in
+returns c = let p = c.args in
     let g = c.gather-n in
     let n : ℕ = g.result in
     let count : ℕ = c.smaller-count.result in
@@ -49,6 +49,9 @@ returns c =     let p = c.args in
     ∙ take_at front (drop (length front) p.work.now) (payload_size * n) size
     ∙ ap (payloads p.file.now 0) (g.ensures.count ∙ ap (leading p.file.now 0) c.smaller-count.ensures)
     in
-    record { saved = subst (λ (s : List ℕ). Saved p.limits s p.out.now c.save.new.out c.save.result) stream c.save.ensures; behind = behind_part c.save.new.s work (payload_size * n) (most_stream p.limits) (omega (arith, c.save.auto.s, length-take-le (payload_size * n) work (omega (arith, g.auto.work, c.requires.1)))) below
+    record {
+      saved = subst (λ (s : List ℕ). Saved p.limits s p.out.now c.save.new.out c.save.result) stream c.save.ensures;
+      behind = behind_part c.save.new.s work (payload_size * n) (most_stream p.limits) (omega (arith, c.save.auto.s, length-take-le (payload_size * n) work (omega (arith, g.auto.work, c.requires.1)))) below
           ∙ ap (drop (most_stream p.limits)) g.ensures.payloads
-          ∙ behind_part front p.work.now (length front) (most_stream p.limits) refl (omega (arith, size)) }
+          ∙ behind_part front p.work.now (length front) (most_stream p.limits) refl (omega (arith, size));
+    }

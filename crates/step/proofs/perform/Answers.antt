@@ -4,7 +4,7 @@ use Rattle.step.proofs.Arms.{countable_noted, room, done_noted_counted, done_and
 use Rattle.step.proofs.perform.Goals as goal
 
 pub logged-requires : goal.logged-requires
-logged-requires c =     room c.in-ReadHead.is (c.read_head.ensures _ _) c.requires.1
+logged-requires c = room c.in-ReadHead.is (c.read_head.ensures _ _) c.requires.1
 
 pub returns-in-ReadHead : goal.returns-in-ReadHead
 returns-in-ReadHead c =
@@ -12,7 +12,7 @@ returns-in-ReadHead c =
     record { does = both.0; ops_after = both.1 }
 
 pub logged-requires-in-ReadTail : goal.logged-requires-in-ReadTail
-logged-requires-in-ReadTail c =     room c.in-ReadTail.is (c.read_tail.ensures _ _) c.requires.1
+logged-requires-in-ReadTail c = room c.in-ReadTail.is (c.read_tail.ensures _ _) c.requires.1
 
 pub returns-in-ReadTail : goal.returns-in-ReadTail
 returns-in-ReadTail c =
@@ -20,7 +20,7 @@ returns-in-ReadTail c =
     record { does = both.0; ops_after = both.1 }
 
 pub logged-requires-in-ReadNextOfH : goal.logged-requires-in-ReadNextOfH
-logged-requires-in-ReadNextOfH c =     room c.in-ReadNextOfH.is (c.read_next_of_h.ensures _) c.requires.1
+logged-requires-in-ReadNextOfH c = room c.in-ReadNextOfH.is (c.read_next_of_h.ensures _) c.requires.1
 
 pub returns-in-ReadNextOfH : goal.returns-in-ReadNextOfH
 returns-in-ReadNextOfH c =
@@ -28,7 +28,7 @@ returns-in-ReadNextOfH c =
     record { does = both.0; ops_after = both.1 }
 
 pub logged-requires-in-ReadNextOfT : goal.logged-requires-in-ReadNextOfT
-logged-requires-in-ReadNextOfT c =     room c.in-ReadNextOfT.is (c.read_next_of_t.ensures _) c.requires.1
+logged-requires-in-ReadNextOfT c = room c.in-ReadNextOfT.is (c.read_next_of_t.ensures _) c.requires.1
 
 pub returns-in-ReadNextOfT : goal.returns-in-ReadNextOfT
 returns-in-ReadNextOfT c =
@@ -36,10 +36,10 @@ returns-in-ReadNextOfT c =
     record { does = both.0; ops_after = both.1 }
 
 pub logged-requires-in-Link : goal.logged-requires-in-Link
-logged-requires-in-Link c =     room c.in-Link.is c.link_own.ensures c.requires.1
+logged-requires-in-Link c = room c.in-Link.is c.link_own.ensures c.requires.1
 
 pub tried-requires : goal.tried-requires
-tried-requires c =     countable_noted _ _ _ c.requires.2 c.logged-in-Link.auto.ops c.logged-in-Link.ensures.1
+tried-requires c = countable_noted _ _ _ c.requires.2 c.logged-in-Link.auto.ops c.logged-in-Link.ensures.1
 
 pub returns-in-Link : goal.returns-in-Link
 returns-in-Link c =
@@ -47,7 +47,7 @@ returns-in-Link c =
     record { does = both.0; ops_after = both.1 }
 
 pub logged-requires-in-TailToOwn : goal.logged-requires-in-TailToOwn
-logged-requires-in-TailToOwn c =     room c.in-TailToOwn.is (c.tail_to_own.ensures _) c.requires.1
+logged-requires-in-TailToOwn c = room c.in-TailToOwn.is (c.tail_to_own.ensures _) c.requires.1
 
 pub returns-in-TailToOwn : goal.returns-in-TailToOwn
 returns-in-TailToOwn c =
@@ -55,10 +55,10 @@ returns-in-TailToOwn c =
     record { does = both.0; ops_after = both.1 }
 
 pub logged-requires-in-TailToN : goal.logged-requires-in-TailToN
-logged-requires-in-TailToN c =     room c.in-TailToN.is (c.tail_to_n.ensures _ _) c.requires.1
+logged-requires-in-TailToN c = room c.in-TailToN.is (c.tail_to_n.ensures _ _) c.requires.1
 
 pub helped-requires : goal.helped-requires
-helped-requires c =     countable_noted _ _ _ c.requires.2 c.logged-in-TailToN.auto.ops c.logged-in-TailToN.ensures.1
+helped-requires c = countable_noted _ _ _ c.requires.2 c.logged-in-TailToN.auto.ops c.logged-in-TailToN.ensures.1
 
 pub returns-in-TailToN : goal.returns-in-TailToN
 returns-in-TailToN c =
@@ -66,7 +66,7 @@ returns-in-TailToN c =
     record { does = both.0; ops_after = both.1 }
 
 pub logged-requires-in-HeadToN : goal.logged-requires-in-HeadToN
-logged-requires-in-HeadToN c =     room c.in-HeadToN.is (c.head_to_n.ensures _ _) c.requires.1
+logged-requires-in-HeadToN c = room c.in-HeadToN.is (c.head_to_n.ensures _ _) c.requires.1
 
 pub returns-in-HeadToN : goal.returns-in-HeadToN
 returns-in-HeadToN c =
@@ -74,7 +74,7 @@ returns-in-HeadToN c =
     record { does = both.0; ops_after = both.1 }
 
 pub logged-requires-in-ReadTop : goal.logged-requires-in-ReadTop
-logged-requires-in-ReadTop c =     room c.in-ReadTop.is (c.read_top.ensures _ _) c.requires.1
+logged-requires-in-ReadTop c = room c.in-ReadTop.is (c.read_top.ensures _ _) c.requires.1
 
 pub returns-in-ReadTop : goal.returns-in-ReadTop
 returns-in-ReadTop c =
@@ -82,7 +82,7 @@ returns-in-ReadTop c =
     record { does = both.0; ops_after = both.1 }
 
 pub logged-requires-in-ReadTopToTake : goal.logged-requires-in-ReadTopToTake
-logged-requires-in-ReadTopToTake c =     room c.in-ReadTopToTake.is (c.read_top_to_take.ensures _ _) c.requires.1
+logged-requires-in-ReadTopToTake c = room c.in-ReadTopToTake.is (c.read_top_to_take.ensures _ _) c.requires.1
 
 pub returns-in-ReadTopToTake : goal.returns-in-ReadTopToTake
 returns-in-ReadTopToTake c =
@@ -90,7 +90,7 @@ returns-in-ReadTopToTake c =
     record { does = both.0; ops_after = both.1 }
 
 pub logged-requires-in-ReadMark : goal.logged-requires-in-ReadMark
-logged-requires-in-ReadMark c =     room c.in-ReadMark.is (c.read_mark.ensures _) c.requires.1
+logged-requires-in-ReadMark c = room c.in-ReadMark.is (c.read_mark.ensures _) c.requires.1
 
 pub returns-in-ReadMark : goal.returns-in-ReadMark
 returns-in-ReadMark c =
@@ -98,7 +98,7 @@ returns-in-ReadMark c =
     record { does = both.0; ops_after = both.1 }
 
 pub logged-requires-in-Push : goal.logged-requires-in-Push
-logged-requires-in-Push c =     room c.in-Push.is c.push.ensures c.requires.1
+logged-requires-in-Push c = room c.in-Push.is c.push.ensures c.requires.1
 
 pub returns-in-Push : goal.returns-in-Push
 returns-in-Push c =
@@ -106,7 +106,7 @@ returns-in-Push c =
     record { does = both.0; ops_after = both.1 }
 
 pub logged-requires-in-RaiseMark : goal.logged-requires-in-RaiseMark
-logged-requires-in-RaiseMark c =     room c.in-RaiseMark.is (c.raise_mark.ensures _) c.requires.1
+logged-requires-in-RaiseMark c = room c.in-RaiseMark.is (c.raise_mark.ensures _) c.requires.1
 
 pub returns-in-RaiseMark : goal.returns-in-RaiseMark
 returns-in-RaiseMark c =
@@ -114,7 +114,7 @@ returns-in-RaiseMark c =
     record { does = both.0; ops_after = both.1 }
 
 pub logged-requires-in-TopToNext : goal.logged-requires-in-TopToNext
-logged-requires-in-TopToNext c =     room c.in-TopToNext.is (c.top_to_next.ensures _) c.requires.1
+logged-requires-in-TopToNext c = room c.in-TopToNext.is (c.top_to_next.ensures _) c.requires.1
 
 pub returns-in-TopToNext : goal.returns-in-TopToNext
 returns-in-TopToNext c =
@@ -122,7 +122,7 @@ returns-in-TopToNext c =
     record { does = both.0; ops_after = both.1 }
 
 pub logged-requires-in-ReadUpper : goal.logged-requires-in-ReadUpper
-logged-requires-in-ReadUpper c =     room c.in-ReadUpper.is (c.read_upper.ensures _) c.requires.1
+logged-requires-in-ReadUpper c = room c.in-ReadUpper.is (c.read_upper.ensures _) c.requires.1
 
 pub returns-in-ReadUpper : goal.returns-in-ReadUpper
 returns-in-ReadUpper c =
@@ -130,7 +130,7 @@ returns-in-ReadUpper c =
     record { does = both.0; ops_after = both.1 }
 
 pub logged-requires-in-ReadUpperToTake : goal.logged-requires-in-ReadUpperToTake
-logged-requires-in-ReadUpperToTake c =     room c.in-ReadUpperToTake.is (c.read_upper_to_take.ensures _) c.requires.1
+logged-requires-in-ReadUpperToTake c = room c.in-ReadUpperToTake.is (c.read_upper_to_take.ensures _) c.requires.1
 
 pub returns-in-ReadUpperToTake : goal.returns-in-ReadUpperToTake
 returns-in-ReadUpperToTake c =
@@ -138,7 +138,7 @@ returns-in-ReadUpperToTake c =
     record { does = both.0; ops_after = both.1 }
 
 pub logged-requires-in-LinkAbove : goal.logged-requires-in-LinkAbove
-logged-requires-in-LinkAbove c =     room c.in-LinkAbove.is c.link_above.ensures c.requires.1
+logged-requires-in-LinkAbove c = room c.in-LinkAbove.is c.link_above.ensures c.requires.1
 
 pub returns-in-LinkAbove : goal.returns-in-LinkAbove
 returns-in-LinkAbove c =
@@ -146,7 +146,7 @@ returns-in-LinkAbove c =
     record { does = both.0; ops_after = both.1 }
 
 pub logged-requires-in-TopToOwn : goal.logged-requires-in-TopToOwn
-logged-requires-in-TopToOwn c =     room c.in-TopToOwn.is (c.top_to_own.ensures _) c.requires.1
+logged-requires-in-TopToOwn c = room c.in-TopToOwn.is (c.top_to_own.ensures _) c.requires.1
 
 pub returns-in-TopToOwn : goal.returns-in-TopToOwn
 returns-in-TopToOwn c =
@@ -154,7 +154,7 @@ returns-in-TopToOwn c =
     record { does = both.0; ops_after = both.1 }
 
 pub logged-requires-in-TopToN : goal.logged-requires-in-TopToN
-logged-requires-in-TopToN c =     room c.in-TopToN.is (c.top_to_n.ensures _ _) c.requires.1
+logged-requires-in-TopToN c = room c.in-TopToN.is (c.top_to_n.ensures _ _) c.requires.1
 
 pub returns-in-TopToN : goal.returns-in-TopToN
 returns-in-TopToN c =
@@ -162,7 +162,7 @@ returns-in-TopToN c =
     record { does = both.0; ops_after = both.1 }
 
 pub logged-requires-in-Cut : goal.logged-requires-in-Cut
-logged-requires-in-Cut c =     room c.in-Cut.is (c.cut.ensures _) c.requires.1
+logged-requires-in-Cut c = room c.in-Cut.is (c.cut.ensures _) c.requires.1
 
 pub returns-in-Cut : goal.returns-in-Cut
 returns-in-Cut c =
@@ -170,7 +170,7 @@ returns-in-Cut c =
     record { does = both.0; ops_after = both.1 }
 
 pub logged-requires-in-ClearFlag : goal.logged-requires-in-ClearFlag
-logged-requires-in-ClearFlag c =     room c.in-ClearFlag.is (c.clear_flag.ensures _) c.requires.1
+logged-requires-in-ClearFlag c = room c.in-ClearFlag.is (c.clear_flag.ensures _) c.requires.1
 
 pub returns-in-ClearFlag : goal.returns-in-ClearFlag
 returns-in-ClearFlag c =

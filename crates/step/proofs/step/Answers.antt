@@ -73,7 +73,7 @@ counted-as row o k before outcome looked going next same count =
     count ∙ (λ i. counted (back i) (noted (same i) o k before))
 
 pub perform-d-requires : goal.perform-d-requires
-perform-d-requires c =     (c.requires.row_value.1, room_as (event_is _ _ _ _ _ c.row_of-e.ensures) c.requires.has_cells.0, c.requires.has_cells.1)
+perform-d-requires c = (c.requires.row_value.1, room_as (event_is _ _ _ _ _ c.row_of-e.ensures) c.requires.has_cells.0, c.requires.has_cells.1)
 
 pub returns : goal.returns
-returns c =     let looked = c.row_of-e.ensures in record { step = access-and-successor-are-the-step looked c.perform-d.ensures.does c.successor-row.ensures; ops_after = counted-as _ _ _ _ _ looked c.requires.row_value.0 c.successor-row.ensures (event_is _ _ _ _ _ looked) c.perform-d.ensures.ops_after }
+returns c = let looked = c.row_of-e.ensures in record { step = access-and-successor-are-the-step looked c.perform-d.ensures.does c.successor-row.ensures; ops_after = counted-as _ _ _ _ _ looked c.requires.row_value.0 c.successor-row.ensures (event_is _ _ _ _ _ looked) c.perform-d.ensures.ops_after }

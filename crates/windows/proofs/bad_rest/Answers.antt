@@ -23,11 +23,11 @@ bounds-b-i c = omega arith
 
 pub returns-then-b-i-ne0 : goal.returns-then-b-i-ne0
 unfolding at
-returns-then-b-i-ne0 c =     any_met (unclear c.args.b.now) c.loop-i-test.true (ap not (unequal_same c.if-b-i-ne0.true)) ∙ c.loop-i.invariant.1
+returns-then-b-i-ne0 c = any_met (unclear c.args.b.now) c.loop-i-test.true (ap not (unequal_same c.if-b-i-ne0.true)) ∙ c.loop-i.invariant.1
 
 pub loop-i-preserved : goal.loop-i-preserved
 unfolding at
-loop-i-preserved c =     (omega arith, any_next (unclear c.args.b.now) c.loop-i-test.true (ap not (equal_same c.if-b-i-ne0.false)) ∙ c.loop-i.invariant.1)
+loop-i-preserved c = (omega arith, any_next (unclear c.args.b.now) c.loop-i-test.true (ap not (equal_same c.if-b-i-ne0.false)) ∙ c.loop-i.invariant.1)
 
 pub returns : goal.returns
 returns c = any_end (unclear c.args.b.now) c.loop-i-test.false ∙ c.loop-i.invariant.1

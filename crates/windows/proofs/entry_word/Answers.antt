@@ -16,5 +16,5 @@ unfolding block_size entry_at
 word_at-requires c = omega (arith, c.entry_at-place.ensures)
 
 pub returns : goal.returns
-returns c =     let p = c.args in
+returns c = let p = c.args in
     c.word_at.ensures ∙ ap (λ (place : ℕ). word p.b.now (place + p.i)) c.entry_at-place.ensures

@@ -31,7 +31,7 @@ slice_bounds-make-start-2 c = omega (arith, c.smaller-end.ensures)
 
 pub make-requires : goal.make-requires
 unfolding block_size payload_size
-make-requires c =     let p = c.args in
+make-requires c = let p = c.args in
     let out : List ℕ = p.out.now in
     let own = take_within p.s.now (payload_size * p.i) payload_size c.smaller-end.result c.smaller-end.ensures in (
       omega (arith, length_part out (block_size * p.i) (length out - block_size * p.i) (omega arith)),
@@ -40,7 +40,7 @@ make-requires c =     let p = c.args in
 
 pub returns : goal.returns
 unfolding block_size payload_size
-returns c =     let p = c.args in
+returns c = let p = c.args in
     let out : List ℕ = p.out.now in
     let size : length (block p.i (filled (own_bytes p.s.now p.i))) ≡ block_size =
     length_block p.i (filled (own_bytes p.s.now p.i)) (length_payload_filled p.s.now p.i)

@@ -11,7 +11,7 @@ loop-i-init c = laying_none c.args.s.now c.args.out.now c.args.count c.requires.
 
 pub put_block-requires : goal.put_block-requires
 unfolding block_size
-put_block-requires c =     let p = c.args in
+put_block-requires c = let p = c.args in
     (omega arith, block_begins p.s.now c.loop-i.i p.count c.requires.1 c.requires.2 c.loop-i-test.true, omega arith)
 
 pub loop-i-preserved : goal.loop-i-preserved

@@ -14,12 +14,12 @@ pub add-so_far-requires : goal.add-so_far-requires
 add-so_far-requires c = tt
 
 pub loop-i-preserved : goal.loop-i-preserved
-loop-i-preserved c =     let bytes : List ℕ = c.args.s.now in
+loop-i-preserved c = let bytes : List ℕ = c.args.s.now in
     let turn = c.loop-i in
     ap (λ (t : Sums). add_bytes t (drop (turn.i + 1) bytes)) c.add-so_far.ensures
     ∙ add_next turn.so_far bytes turn.i (omega arith)
     ∙ turn.invariant
 
 pub returns : goal.returns
-returns c =     add_end c.loop-i.so_far c.args.s.now c.loop-i.i c.loop-i-test.false
+returns c = add_end c.loop-i.so_far c.args.s.now c.loop-i.i c.loop-i-test.false
     ∙ c.loop-i.invariant
