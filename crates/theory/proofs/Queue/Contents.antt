@@ -16,7 +16,7 @@ module _ {count k : ℕ} {next born : ℕ → ℕ} (d : Order count k next born)
   born_behind (end z) e m = absurd (mathlib.Core.List.Memᴰ.not-nil m)
   born_behind {i} {y} (node {i = x} {l = l} n c) e m =
       let later : born i < born x = subst (λ z. born i < born z) e (d.ascends i (λ z. n (sym e ∙ z))) in
-      let rest : Memᴰ y l → born x < born y = born_behind c refl in
+      let rest : Memᴰ y l → born x < born y = born_behind {i = x} c refl in
       go later rest (mathlib.Core.List.Memᴰ.cases_cons m)
     where
       go : born i < born x → (Memᴰ y l → born x < born y) → (y ≡ x) ⊎ Memᴰ y l → born i < born y
