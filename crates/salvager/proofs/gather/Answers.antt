@@ -14,9 +14,6 @@ pub take_block-answer-requires : goal.take_block-answer-requires
 unfolding block_size payload_size
 take_block-answer-requires c = omega arith
 
-pub enum_told-1 : goal.enum_told-1
-enum_told-1 c = c.in-Payload.is
-
 pub shape_of-work-in_default : goal.shape_of-work-in_default
 shape_of-work-in_default c = omega (arith, c.take_block-answer.auto.work, c.loop-i.invariant.laid.size)
 
@@ -26,12 +23,12 @@ returns-in_default c =     let g = c.loop-i.invariant in
     let t = c.take_block-answer in
     let refused = refused_number t.result c.in_default.not-Payload in
     let more = c.loop-i-test.true in
-    record { count = refused_ends g more t.result t.ensures.number refused; payloads = refused_left g more t.result t.ensures refused (omega (arith, g.laid.size)) }
+    record { count = refused_ends g more t.result (t.ensures.number, t.ensures.payload) refused; payloads = refused_left g more t.result (t.ensures.number, t.ensures.payload) refused (omega (arith, g.laid.size)) }
 
 pub loop-i-preserved : goal.loop-i-preserved
 unfolding payload_size
 loop-i-preserved c =     let t = c.take_block-answer in
-    gathering_next c.loop-i.invariant c.loop-i-test.true t.result t.ensures.number c.requires.1 (omega arith) c.in-Payload.is
+    gathering_next c.loop-i.invariant c.loop-i-test.true t.result (t.ensures.number, t.ensures.payload) c.requires.1 (omega arith) c.in-Payload.is
 
 pub shape_of-work : goal.shape_of-work
 shape_of-work c = c.loop-i.invariant.laid.size

@@ -54,9 +54,9 @@ returns c =     let p = c.args in
     let w = c.write-r in
     let whole : records_end s ≤ length s = omega (arith, c.if-s-start.false, c.records_end-start.ensures) in
     let stream = c.shorten-end.ensures.stream in
-    written_saved l s out w.new.out.1.0 w.result c.with_counts.result
+    written_saved l s out w.new.out w.result c.with_counts.result
     (write_decides l s c.header-of_header.ensures c.if-of_header-ne0.false c.requires.0 c.if-s-lt6.false whole out c.requires.1)
-    (w.ensures.0 ∙ ap (λ (x : List ℕ). write_number l x out) stream, w.ensures.1.0 ∙ ap (λ (x : List ℕ). write_length l x out) stream, w.ensures.1.1 ∙ ap (λ (x : List ℕ). write_out l x out) stream)
-    (omega (arith, c.shorten-end.ensures.0, c.records_end-start.ensures))
+    (w.ensures.number ∙ ap (λ (x : List ℕ). write_number l x out) stream, w.ensures.size ∙ ap (λ (x : List ℕ). write_length l x out) stream, w.ensures.out ∙ ap (λ (x : List ℕ). write_out l x out) stream)
+    (omega (arith, c.shorten-end.ensures.end, c.records_end-start.ensures))
     c.schedule_length-named.ensures
     c.with_counts.ensures

@@ -47,10 +47,8 @@ returns c =     let p = c.args in
     let stream : take (payload_size * n) work ≡ looked p.limits p.file.now =
     ap (take (payload_size * n)) g.ensures.payloads
     ∙ take_at front (drop (length front) p.work.now) (payload_size * n) size
-    ∙ ap (payloads p.file.now 0) (g.ensures.0 ∙ ap (leading p.file.now 0) c.smaller-count.ensures)
-    in (
-      subst (λ (s : List ℕ). Saved p.limits s p.out.now c.save.new.1.1.0 c.save.result) stream c.save.ensures,
-      behind_part c.save.new.1.0 work (payload_size * n) (most_stream p.limits) (omega (arith, c.save.auto.1.0, length-take-le (payload_size * n) work (omega (arith, g.auto.1.1.0, c.requires.1)))) below
-          ∙ ap (drop (most_stream p.limits)) g.ensures.1
-          ∙ behind_part front p.work.now (length front) (most_stream p.limits) refl (omega (arith, size)),
-    )
+    ∙ ap (payloads p.file.now 0) (g.ensures.count ∙ ap (leading p.file.now 0) c.smaller-count.ensures)
+    in
+    record { saved = subst (λ (s : List ℕ). Saved p.limits s p.out.now c.save.new.out c.save.result) stream c.save.ensures; behind = behind_part c.save.new.s work (payload_size * n) (most_stream p.limits) (omega (arith, c.save.auto.s, length-take-le (payload_size * n) work (omega (arith, g.auto.work, c.requires.1)))) below
+          ∙ ap (drop (most_stream p.limits)) g.ensures.payloads
+          ∙ behind_part front p.work.now (length front) (most_stream p.limits) refl (omega (arith, size)) }

@@ -11,9 +11,7 @@ use Rattle.rows.specs.Operations.{Cells, cells, stored}
 use Rattle.rows.specs.Operations.Column.{First}
 use Rattle.machine.specs.declared.Event.{Event}
 use Rattle.journal.specs.Stored.{entered, noted, counted, closed, Countable, HasCells}
-use borrow.Author.Rules.{rules}
-use Rattle.run.proofs.make.Statement.{statement}
-use Rattle.run.proofs.make.Tie as tie
+use Rattle.run.proofs.make.Goals as goal
 
 -- the three stores, one after the other
 in-turn : (e : Event) (back : Bool) (o k : ℕ) (c : Cells) {c₁ c₂ c₃ : Cells} {b ends : Bool} → c₁ ≡ entered o k c → c₂ ≡ counted back (noted e o k c₁) → c₃ ≡ closed b o k c₂ → b ≡ ends → c₃ ≡ closed ends o k (counted back (noted e o k (entered o k c)))
@@ -30,27 +28,12 @@ step-there {o = o} k {ops = ops} some there n kept first = (
   },
 )
 
-step-requires : tie.Need-step-requires
-step-requires c κs =
-    let entered = c.before.before.before.before.before.before in
-    let start = entered.before.before.before.before.before.before.before.requires in
-    ((start.going, start.inside), step-there _ start.some start.noting start.counting entered.enter.auto.1.1.0 entered.enter.ensures.0)
+pub step-s-requires : goal.step-s-requires
+step-s-requires c =     let start = c.requires in
+    record { row_value = (start.going, start.inside); has_cells = step-there _ start.some start.noting start.counting c.enter.auto.ops c.enter.ensures.ops_after }
 
-returns : tie.Need-returns
-returns c =
-    let end = c.before.before in
-    let made = end.before.before.before.before.before.before.before in
-    let enter = made.before.before.before.before.before.before.before.enter.ensures in (
-      made.step.ensures.0,
-      record {
-        cells_stored = in-turn _ _ _ _ _ enter.0 made.step.ensures.1 end.enter-end.ensures end.before.before.has_ended.ensures;
-        by_stored = enter.1;
-      },
-    )
-
-pub make_spec : {M : Type 1} → statement M
-make_spec =
-    tie.close
-    (tie.spec
-    (λ c κs. search rules) step-requires (λ c κs. search rules) (λ c κs. search rules) (λ c. search rules)
-    (λ c. search rules) (λ c. search rules) returns)
+pub returns : goal.returns
+returns c =     let enter = c.enter.ensures in record { step = c.step-s.ensures.step; stored = record {
+        cells_stored = in-turn _ _ _ _ _ enter.ops_after c.step-s.ensures.ops_after c.enter_end.ensures c.has_ended.ensures;
+        by_stored = enter.by_after;
+      } }
