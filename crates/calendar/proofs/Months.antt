@@ -5,6 +5,7 @@ use Prim.Native.Nat.{ℕ, zero, suc, ◌+◌, ◌-◌, ◌*◌, ◌/◌, ◌≤�
 use native.Mathlib.Omega.{arith}
 use mathlib.Core.Bool.{Bool, true, false, ◌&&◌}
 use Rattle.basics.specs.Choice.{pick, same, less}
+use Rattle.basics.specs.Maps.{at}
 use Rattle.basics.proofs.Choice.{pick_true, pick_false, pick_then, pick_else, lt_less, le_less, compare}
 use Rattle.calendar.specs.Years.{is_leap, year_length}
 use Rattle.calendar.specs.Months.{common_lengths, month_length, days_of_months}
@@ -14,7 +15,7 @@ use Rattle.calendar.proofs.Below.{agree, agree_at}
 -- the days of the first `n` months, by whether the year is a leap year alone
 unfoldable by_leap : Bool → ℕ → ℕ
 by_leap leap zero = 0
-by_leap leap (suc n) = by_leap leap n + pick (same (suc n) 2 && leap) 29 (common_lengths (suc n))
+by_leap leap (suc n) = by_leap leap n + pick (same (suc n) 2 && leap) 29 (at common_lengths (suc n))
 
 by_leap_is : (year n : ℕ) → days_of_months year n ≡ by_leap (is_leap year) n
 unfolding days_of_months month_length by_leap
@@ -23,7 +24,7 @@ by_leap_is year (suc n) = ap (λ (d : ℕ). d + month_length year (suc n)) (by_l
 
 -- the formula, computed for each month of common and of leap years, and behind December
 formula_right : (leap : Bool) (n : ℕ) → n < 13 → start_by_rule leap n ≡ by_leap leap n
-unfolding common_start start_by_rule by_leap common_lengths pick same less agree
+unfolding common_start start_by_rule by_leap common_lengths at pick same less agree
 formula_right true n h = agree_at (start_by_rule true) (by_leap true) 13 refl n h
 formula_right false n h = agree_at (start_by_rule false) (by_leap false) 13 refl n h
 
@@ -78,7 +79,7 @@ between_starts year month h p q =
 
 -- all twelve are the year
 pub year_of_months : (year : ℕ) → days_of_months year 11 + 31 ≡ year_length year
-unfolding year_length by_leap common_lengths pick same
+unfolding year_length by_leap common_lengths at pick same
 year_of_months year = ap (λ (d : ℕ). d + 31) (by_leap_is year 11) ∙ go (is_leap year)
   where
     go : (leap : Bool) → by_leap leap 11 + 31 ≡ pick leap 366 365

@@ -2,6 +2,7 @@
 -- these definitions. `rows_proved` and `days_proved` say that the definitions give them, by computation.
 use Rattle.std.specs.Prelude.{◌≡◌, refl, ℕ, Bool, true, false, List, [], ◌∷◌, map}
 use Rattle.basics.specs.Choice.{pick, same, less}
+use Rattle.basics.specs.Maps.{at}
 use Rattle.calendar.specs.Years.{is_leap, year_length, days_of_years}
 use Rattle.calendar.specs.Months.{common_lengths, month_length, days_of_months}
 use Rattle.calendar.specs.Dates.{from_to, is_date, day_number}
@@ -77,7 +78,7 @@ counted_row r =
     on r.year r.month r.day days (weekday days)
 
 pub rows_proved : map counted_row rows ≡ rows
-unfolding rows pick same is_leap year_length days_of_years common_lengths month_length days_of_months day_number weekday_after weekday
+unfolding rows pick same at is_leap year_length days_of_years common_lengths month_length days_of_months day_number weekday_after weekday
 rows_proved = refl
 
 -- a day of a month of a year, and is there such a date?
@@ -141,5 +142,5 @@ days =
     ∷ []
 
 pub days_proved : map (λ r. is_date r.year r.month r.day) days ≡ map (λ r. r.there) days
-unfolding days pick same less is_leap common_lengths month_length from_to is_date
+unfolding days pick same less at is_leap common_lengths month_length from_to is_date
 days_proved = refl

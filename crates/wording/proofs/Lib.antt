@@ -1,3 +1,4 @@
--- How an operation's end reads, and how long a report is.
+-- How an operation's end reads, how long a report is, and the tables of traces.
 pub mod Endings
 pub mod Sizes
+pub mod TracesProved

@@ -1,6 +1,6 @@
 -- Traces of jobs cut short, as one table of jobs, of how many entries are kept, and of both whole reports, the undamaged job's and that of what is kept.
 -- Document 02, request 7: "operations that ended in the kept steps have the answers of the undamaged job, though a line may have fewer takers and a stack line an
--- earlier step." The reports are worked out from the papers by hand. `cut_traces_proved` of `Traces.antt` says that the definitions give them, by computation.
+-- earlier step." The reports are worked out from the papers by hand. `cut_traces_proved` of `proofs/TracesProved.antt` says that the definitions give them, by computation.
 use Rattle.std.specs.Prelude.{ℕ, ◌+◌, List, [], ◌∷◌}
 use Prim.Native.String.{String}
 use Rattle.std.proofs.Math.ListN as Lists

@@ -1,6 +1,6 @@
 -- Traces with windows, as one table of jobs, window blocks and whole reports: each edge of document 02, request 6, which has no trace of its own. The
 -- weekdays are a calendar's, and the reports are worked out from the papers by hand: a put of a queue makes Q1 Q2 Q3 Q4, a step each, and links at Q3.
--- `window_traces_proved` of `Traces.antt` says that the definitions accept every job and every block and give the report, by computation.
+-- `window_traces_proved` of `proofs/TracesProved.antt` says that the definitions accept every job and every block and give the report, by computation.
 use Rattle.std.specs.Prelude.{ℕ, Bool, false, List, [], ◌∷◌}
 use Prim.Native.String.{String}
 use Rattle.basics.specs.Text.{text}

@@ -8,18 +8,17 @@ const YEARS: std::ops::RangeInclusive<u16> = 2_000..=2_099;
 const SATURDAY: u32 = 5;
 const WEEK: u32 = 7;
 
+/// The days of a common year before each month, and before the year after.
+const STARTS: [u32; 13] = [0, 31, 59, 90, 120, 151, 181, 212, 243, 273, 304, 334, 365];
+
 pub fn is_leap(year: u16) -> bool {
     year.is_multiple_of(4) && (!year.is_multiple_of(100) || year.is_multiple_of(400))
 }
 
-/// The days of a year before a month; month 13 is the year's end. From March on, five months have 153 days: 31, 30, 31, 30, 31, and again from August on.
+/// The days of a year before a month; month 13 is the year's end.
 fn start(year: u16, month: u8) -> u32 {
-    let month = u32::from(month);
-    if month < 3 {
-        return 31 * (month - 1);
-    }
-    let leap_day = u32::from(is_leap(year));
-    59 + leap_day + (153 * (month - 3) + 2) / 5
+    let leap_day = month > 2 && is_leap(year);
+    STARTS[usize::from(month) - 1] + u32::from(leap_day)
 }
 
 #[derive(Clone, Copy, PartialEq, Eq, Debug)]
