@@ -1,18 +1,14 @@
 -- What an answer tells: a payload's number is 0, a refusal's is not, and a refusal gives no bytes. Assumes nothing.
-use Rattle.std.proofs.Common.{◌≡◌, ℕ, ◌≤◌, ◌≢◌, List, [], ◌∷◌, length, refl, inl, inr, arith}
-use types.Run.{OneOf}
-use denote.Enum.Declared.{tag_of}
+use Rattle.std.proofs.Common.{◌≡◌, ℕ, ◌≤◌, ◌≢◌, List, [], length, refl, arith}
 use Rattle.block.specs.Block.{block_size, payload_size}
 use Rattle.block.specs.Checked.{number_of, bytes_of}
 use Rattle.block.specs.declared.Checked.{Checked}
 use Rattle.block.specs.declared.Checked.TheVariants.{Payload, SumDiffers, Misplaced}
-use Rattle.block.specs.contracts.Checked.{the_type}
 use Rattle.block.proofs.Accepted.{length_payload}
 
 -- what the `else` of a `let` for a payload knows
-pub refused_number : (r : Checked) → OneOf (1 ∷ 2 ∷ []) (tag_of the_type r) → number_of r ≢ 0
-refused_number Payload (inl e) z = omega arith
-refused_number Payload (inr e) z = omega arith
+pub refused_number : (r : Checked) → (r ≡ Payload → ⊥) → number_of r ≢ 0
+refused_number Payload h z = h refl
 refused_number SumDiffers h z = omega arith
 refused_number Misplaced h z = omega arith
 

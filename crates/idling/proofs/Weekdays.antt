@@ -6,7 +6,7 @@ use mathlib.Core.List.{List}
 use Rattle.basics.specs.Choice.{same}
 use Rattle.basics.proofs.Choice.{pick_elim, same_unequal}
 use Rattle.calendar.specs.Dates.{day_number}
-use Rattle.calendar.specs.Weekdays.{Monday, Sunday, weekday_before, weekday_after}
+use Rattle.calendar.specs.Weekdays.{monday, sunday, weekday_before, weekday_after}
 use Rattle.calendar.proofs.Weekdays.{weekday_bound}
 use Rattle.windows.specs.Fields.{year, month, day}
 use Rattle.idling.specs.Minutes.{start_weekday}
@@ -17,10 +17,10 @@ start_bound b e = subst (λ (n : ℕ). n ≤ 6) (sym e) (weekday_bound (day_numb
 
 pub before_bound : {w n : ℕ} → w ≤ 6 → n ≡ weekday_before w → n ≤ 6
 unfolding weekday_before
-before_bound {w} h e = subst (λ (n : ℕ). n ≤ 6) (sym e) (pick_elim (λ (n : ℕ). n ≤ 6) (same w Monday) Sunday (w - 1) (λ t. omega arith) (λ t. omega arith))
+before_bound {w} h e = subst (λ (n : ℕ). n ≤ 6) (sym e) (pick_elim (λ (n : ℕ). n ≤ 6) (same w monday) sunday (w - 1) (λ t. omega arith) (λ t. omega arith))
 
 pub after_bound : {w n : ℕ} → w ≤ 6 → n ≡ weekday_after w → n ≤ 6
 unfolding weekday_after
 after_bound {w} h e =
     subst (λ (n : ℕ). n ≤ 6) (sym e)
-    (pick_elim (λ (n : ℕ). n ≤ 6) (same w Sunday) Monday (suc w) (λ t. omega arith) (λ t. omega (arith, same_unequal t)))
+    (pick_elim (λ (n : ℕ). n ≤ 6) (same w sunday) monday (suc w) (λ t. omega arith) (λ t. omega (arith, same_unequal t)))

@@ -15,7 +15,7 @@ use Rattle.job.specs.declared.Limits.{Limits}
 use Rattle.job.specs.Limits.{most_stream, Sound}
 use Rattle.job.specs.Stream.{stream_length}
 use Rattle.job.specs.Refusals.{exact_count, bad_padding}
-use Rattle.job.specs.File.{zeros, block_at, block_count, payloads, joined, blocks, padded, file_of, blocks_refusal, file_refusal, stream_of}
+use Rattle.job.specs.File.{zeros, block_at, block_count, payloads, joined, padded, file_of, blocks_refusal, file_refusal, stream_of}
 use Rattle.job.specs.Calls.{small_work, read_number, read_length, held, read_work, write_number}
 use Rattle.job.specs.RoundTrip.{Read_back}
 use Rattle.job.proofs.Accepted.{Fine, Good_file, Good_stream, good_accepted, written_good}

@@ -1,5 +1,6 @@
 // The stream of a job: its fields, and the conditions of document 01's table that are about a stream.
 #![tactic(auto)]
+
 ghost use Rattle.std.specs.Prelude.{◌≡◌, ◌+◌, ◌*◌, ◌≤◌, ◌<◌, ◌||◌, not, length};
 ghost use Rattle.basics.specs.Choice.{less};
 ghost use Rattle.job.specs.Limits.{field, most_file, most_stream, Sound};

@@ -12,7 +12,7 @@ use Rattle.machine.specs.Effects.{numbers, sift}
 use Rattle.machine.specs.Explained.{occurrences}
 
 -- a member that is kept stays
-pub sift_in : (f : ℕ → Bool) {l : List ℕ} {x : ℕ} → Memᴰ x l → f x ≡ true → Memᴰ x (sift f l)
+pub sift_in : (f : ℕ → Bool) {x : ℕ} {l : List ℕ} → Memᴰ x l → f x ≡ true → Memᴰ x (sift f l)
 unfolding sift
 sift_in f {x} (mathlib.Core.List.Memᴰ.head {x = y} {xs = l} e) t =
     pick_elim (Memᴰ x) (f y) (y ∷ sift f l) (sift f l) (λ p. mathlib.Core.List.Memᴰ.head e) (λ p. absurd (true≢false (sym t ∙ ap f e ∙ p)))
@@ -32,7 +32,7 @@ sift_drops f x l t = pick_else _ _ t
 -- what a sift keeps was a member and meets the test
 pub sift_out : (f : ℕ → Bool) (l : List ℕ) {x : ℕ} → Memᴰ x (sift f l) → Memᴰ x l × (f x ≡ true)
 unfolding sift
-sift_out f [] m = absurd (mathlib.Core.List.Memᴰ.not_nil m)
+sift_out f [] m = absurd (mathlib.Core.List.Memᴰ.not-nil m)
 sift_out f (y ∷ l) {x} m =
     let below : Memᴰ x (sift f l) → Memᴰ x l × (f x ≡ true) = λ n. sift_out f l n in
     pick_elim (λ r. Memᴰ x r → Memᴰ x (y ∷ l) × (f x ≡ true)) (f y) (y ∷ sift f l) (sift f l) (λ p n. front below p (mathlib.Core.List.Memᴰ.cases_cons n)) (λ p n. behind (below n)) m
@@ -85,7 +85,7 @@ numbers_in (suc n) {x} low high =
 
 pub numbers_out : (n : ℕ) {x : ℕ} → Memᴰ x (numbers n) → (1 ≤ x) × (x ≤ n)
 unfolding numbers
-numbers_out zero m = absurd (mathlib.Core.List.Memᴰ.not_nil m)
+numbers_out zero m = absurd (mathlib.Core.List.Memᴰ.not-nil m)
 numbers_out (suc n) {x} m =
     let below : Memᴰ x (numbers n) → (1 ≤ x) × (x ≤ n) = λ h. numbers_out n h in
     go below (mathlib.Core.List.Memᴰ.append_cases (numbers n) m)
@@ -116,7 +116,7 @@ distinct_append {b} (more {x = x} {l = a} fresh c) d apart = more (λ m. go (mat
 pub numbers_distinct : (n : ℕ) → Distinct (numbers n)
 unfolding numbers
 numbers_distinct zero = none
-numbers_distinct (suc n) = distinct_append (numbers_distinct n) (more mathlib.Core.List.Memᴰ.not_nil none) (λ x m h. let b : (1 ≤ x) × (x ≤ n) = numbers_out n m in let e : x ≡ suc n = mathlib.Core.List.Memᴰ.eq_of_singleton h in omega arith)
+numbers_distinct (suc n) = distinct_append (numbers_distinct n) (more mathlib.Core.List.Memᴰ.not-nil none) (λ x m h. let b : (1 ≤ x) × (x ≤ n) = numbers_out n m in let e : x ≡ suc n = mathlib.Core.List.Memᴰ.eq_of_singleton h in omega arith)
 
 pub sift_distinct : (f : ℕ → Bool) {l : List ℕ} → Distinct l → Distinct (sift f l)
 unfolding sift
@@ -135,7 +135,7 @@ occurs_never x (y ∷ l) h =
 
 pub occurs_once : (x : ℕ) {l : List ℕ} → Distinct l → Memᴰ x l → occurrences x l ≡ 1
 unfolding occurrences
-occurs_once x none m = absurd (mathlib.Core.List.Memᴰ.not_nil m)
+occurs_once x none m = absurd (mathlib.Core.List.Memᴰ.not-nil m)
 occurs_once x (more {x = y} {l = l} fresh d) m =
     let below : Memᴰ x l → occurrences x l ≡ 1 = λ n. occurs_once x d n in
     go below (split x y) (mathlib.Core.List.Memᴰ.cases_cons m)

@@ -45,14 +45,14 @@ module _ (kind : Kind) (log : ℕ → Note) (count k : ℕ) where
   -- what stands in the lines at steps 1 to n
   placed_in : (n : ℕ) (r : Recorded) → Memᴰ r (lines_to kind log count k n) → Placed kind log count k n r
   unfolding lines_to
-  placed_in zero r m = absurd (mathlib.Core.List.Memᴰ.not_nil m)
+  placed_in zero r m = absurd (mathlib.Core.List.Memᴰ.not-nil m)
   placed_in (suc n) r m =
       let below : Memᴰ r (lines_to kind log count k n) → Placed kind log count k n r = λ h. placed_in n r h in
       go below (at_step kind log count k (suc n)) (mathlib.Core.List.Memᴰ.append_cases (lines_to kind log count k n) m)
     where
       go : (Memᴰ r (lines_to kind log count k n) → Placed kind log count k n r) → AtStep kind log count k (suc n) → Memᴰ r (lines_to kind log count k n) ⊎ Memᴰ r (line_at kind log count k (suc n)) → Placed kind log count k (suc n) r
       go below a (inl h) = let b : Placed kind log count k n r = below h in record { from_one = b.from_one; to_end = omega arith; of_maker = b.of_maker }
-      go below (no_line n e) (inr h) = absurd (mathlib.Core.List.Memᴰ.not_nil (subst (Memᴰ r) e h))
+      go below (no_line n e) (inr h) = absurd (mathlib.Core.List.Memᴰ.not-nil (subst (Memᴰ r) e h))
       go below (a_line line f e) (inr h) =
           let is : r ≡ record { step = suc n; line = line } = mathlib.Core.List.Memᴰ.eq_of_singleton (subst (Memᴰ r) e h) in
           subst (Placed kind log count k (suc n)) (sym is) (record { from_one = omega arith; to_end = omega arith; of_maker = f })

@@ -161,10 +161,13 @@ module _ (f : ℕ → Bool) where
       by_cases (inr b) (inr o) below = omega (arith, latest_kept k o, below b)
 
 -- each number is at most the largest
-pub largest_bounds : (f : ℕ → ℕ) (l : List ℕ) (x : ℕ) → Memᴰ x l → f x ≤ largest f l
+bounded_by_largest : (f : ℕ → ℕ) (x : ℕ) (l : List ℕ) → Memᴰ x l → f x ≤ largest f l
 unfolding largest
-largest_bounds f l x (Memᴰ.head {x = y} {xs = ys} e) = omega (arith, ap f e)
-largest_bounds f l x (Memᴰ.tail {x = y} {xs = ys} m) = omega (arith, largest_bounds f ys x m)
+bounded_by_largest f x l (Memᴰ.head {x = y} {xs = ys} e) = omega (arith, ap f e)
+bounded_by_largest f x l (Memᴰ.tail {x = y} {xs = ys} m) = omega (arith, bounded_by_largest f x ys m)
+
+pub largest_bounds : (f : ℕ → ℕ) (l : List ℕ) (x : ℕ) → Memᴰ x l → f x ≤ largest f l
+largest_bounds f l x m = bounded_by_largest f x l m
 
 -- the largest is one of them
 pub largest_attained : (f : ℕ → ℕ) (l : List ℕ) → largest f l ≢ 0 → (x : ℕ) × Memᴰ x l × (f x ≡ largest f l)

@@ -29,7 +29,7 @@ times_append o [] b = omega arith
 times_append o (r ∷ a) b = omega (arith, times_append o a b)
 
 alone_distinct : (o : ℕ) → Distinct (o ∷ [])
-alone_distinct o = Distinct.more Memᴰ.not_nil Distinct.none
+alone_distinct o = Distinct.more Memᴰ.not-nil Distinct.none
 
 -- a line has each of its members once
 members_distinct : {kind : Kind} (c : Course kind) (k o s : ℕ) (line : Line) → effect kind c.log c.count k o ≡ stands s line → Distinct (members line)

@@ -79,6 +79,7 @@ pub q4_settles : {count k o a b start join : ℕ} {front : ℕ → ℕ} {Other P
 unfolding with_tail
 q4_settles (q4_moves z) at_q4 (in_q4 r) (Queues.Knows.in_q4 y) d g = tail_comes d g y.next_is y.some_node refl
 q4_settles (q4_stays z) at_q4 (in_q4 r) (Queues.Knows.in_q4 y) d g = tail_came d g r y.next_is y.some_node z
+q4_settles turn here stands knows d g = elim here [ ]
 
 -- an operation that links its node is before its Q4
 pub links_to_q4 : {o : ℕ} {m m' : Memory} {l l' : Local} {ans : Answer} → Turn o m l m' l' Linked ans → AtQ4 l'

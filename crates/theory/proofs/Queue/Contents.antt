@@ -13,10 +13,10 @@ use Rattle.theory.proofs.Queue.Memory.{Now, Sound}
 module _ {count k : ℕ} {next born : ℕ → ℕ} (d : Order count k next born) where
   -- the nodes behind a node are born after it
   born_behind : {i x y : ℕ} {l : List ℕ} → Nodes next x l → next i ≡ x → Memᴰ y l → born i < born y
-  born_behind (end z) e m = absurd (mathlib.Core.List.Memᴰ.not_nil m)
+  born_behind (end z) e m = absurd (mathlib.Core.List.Memᴰ.not-nil m)
   born_behind {i} {y} (node {i = x} {l = l} n c) e m =
       let later : born i < born x = subst (λ z. born i < born z) e (d.ascends i (λ z. n (sym e ∙ z))) in
-      let rest : Memᴰ y l → born x < born y = born_behind c refl in
+      let rest : Memᴰ y l → born x < born y = born_behind {i = x} c refl in
       go later rest (mathlib.Core.List.Memᴰ.cases_cons m)
     where
       go : born i < born x → (Memᴰ y l → born x < born y) → (y ≡ x) ⊎ Memᴰ y l → born i < born y

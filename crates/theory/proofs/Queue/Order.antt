@@ -149,7 +149,7 @@ module _ {count k : ℕ} {next born : ℕ → ℕ} (d : Order count k next born)
       subst (λ y. Nodes next' y (o ∷ [])) (sym new) (node some (end next_of_new))
   link_lengthens {i} (node {i = x} {l = l} n c) e li =
       let has_next : next i ≢ 0 = λ z. n (sym e ∙ z) in
-      let rest : Nodes next' (next' x) (l ++ (o ∷ [])) = link_lengthens c refl (λ f z. d.to_linked i has_next (ap born e ∙ z)) in
+      let rest : Nodes next' (next' x) (l ++ (o ∷ [])) = link_lengthens {i = x} c refl (λ f z. d.to_linked i has_next (ap born e ∙ z)) in
       subst (λ y. Nodes next' y (x ∷ (l ++ (o ∷ [])))) (sym (link_keeps_next has_next ∙ e)) (node n rest)
 
   link_last : (i : ℕ) → IsLinked born' i → next' i ≡ 0 → (x : ℕ) → (i ≡ o) ⊎ (i ≢ o) → born' x ≤ born' i

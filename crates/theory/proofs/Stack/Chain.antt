@@ -89,7 +89,7 @@ module _ (c : Course Stack) (k : ℕ) (was : Chain c k) where
 
 chain_fresh : (c : Course Stack) → Chain c 0
 unfolding fresh_memory
-chain_fresh c = record { list = []; nodes = end (ap (λ m. m.top) c.memory_first); distinct = Distinct.none; puts = λ i m. absurd (Memᴰ.not_nil m) }
+chain_fresh c = record { list = []; nodes = end (ap (λ m. m.top) c.memory_first); distinct = Distinct.none; puts = λ i m. absurd (Memᴰ.not-nil m) }
 
 module _ (c : Course Stack) where
   chain : (k : ℕ) → Chain c k

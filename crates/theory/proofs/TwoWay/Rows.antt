@@ -68,6 +68,7 @@ reads_of_dead (w5 b x) r = x
 reads_of_dead (w6 b x) r = x
 reads_of_dead (w7 x) r = x
 reads_of_dead (w9 x) r = x
+reads_of_dead knows r = elim r [ ]
 
 -- a node stays linked, a flag stays cleared and the first W4 stays where it is, so what is known stays known
 pub knows_kept : {born born' killed killed' mark mark' : ℕ → ℕ} {start last last' : ℕ} {l : Local} → ((t : ℕ) → IsLinked born t → IsLinked born' t) → ((t : ℕ) → t ≢ 0 → Before start (killed t) → Before start (killed' t)) → ((t : ℕ) → mark t ≢ 0 → mark' t ≢ 0) → ((t : ℕ) → mark t ≢ 0 → t ≢ 0) → (last ≢ 0 → last' ≡ last) → On l → Knows born killed mark start last l → Knows born' killed' mark' start last' l

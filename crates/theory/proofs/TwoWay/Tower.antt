@@ -32,7 +32,7 @@ spot_top (x ∷ l) = inr (Memᴰ.head refl)
 -- what the upper of a spot is: none may be known of the uppermost, and every other's is of the tower
 pub above : {upper next : ℕ → ℕ} {i : ℕ} {l : List ℕ} → Tower upper next l → Spot i l → (i ≡ top_of l) ⊎ ((upper i ≢ 0) × Memᴰ (upper i) l)
 above ground (inl z) = inl z
-above ground (inr m) = absurd (Memᴰ.not_nil m)
+above ground (inr m) = absurd (Memᴰ.not-nil m)
 above {upper} {i} (floor {x = x} {l = l} some lower up t) s = by_spot (λ b. above t b) s
   where
     from_below : (i ≡ top_of l) ⊎ ((upper i ≢ 0) × Memᴰ (upper i) l) → (i ≡ x) ⊎ ((upper i ≢ 0) × Memᴰ (upper i) (x ∷ l))

@@ -63,7 +63,7 @@ module _ (P : ℕ → Type 0) (object : Kind) where
   unfolding play then
   played [] c d e p all =
       let is : c ≡ d = cc in
-      (λ line m. absurd (Memᴰ.not_nil m), subst (All P) is all)
+      (λ line m. absurd (Memᴰ.not-nil m), subst (All P) is all)
   played (first ∷ lines) c d e p all = go (apply object first c) refl e (λ b h a. played lines b d h (λ o m. p o (Memᴰ.tail m)) a)
     where
       go : (r : Option (List ℕ)) → apply object first c ≡ r → then r (play object lines) ≡ some d → ((b : List ℕ) → play object lines b ≡ some d → All P b → ((line : Line) → Memᴰ line lines → FromPuts P line) × All P d) → ((line : Line) → Memᴰ line (first ∷ lines) → FromPuts P line) × All P d

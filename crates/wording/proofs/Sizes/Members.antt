@@ -34,7 +34,7 @@ times_is x (r ∷ l) = omega (arith, occurrences_append x (members r.line) (all_
 
 line_of_member : (l : List Recorded) {x : ℕ} → Memᴰ x (all_members l) → (r : Recorded) × Memᴰ r l × Memᴰ x (members r.line)
 unfolding all_members
-line_of_member [] m = absurd (Memᴰ.not_nil m)
+line_of_member [] m = absurd (Memᴰ.not-nil m)
 line_of_member (r ∷ l) {x} m = go (λ n. line_of_member l n) (Memᴰ.append_cases (members r.line) m)
   where
     go : (Memᴰ x (all_members l) → (q : Recorded) × Memᴰ q l × Memᴰ x (members q.line)) → Memᴰ x (members r.line) ⊎ Memᴰ x (all_members l) → (q : Recorded) × Memᴰ q (r ∷ l) × Memᴰ x (members q.line)
@@ -82,7 +82,7 @@ module _ (j : Job) (k : ℕ) (ex : Explained j k) where
       ex.operations r.0 r.1 o (subst (λ line. Memᴰ o (members line)) (sym r.2) (Memᴰ.head refl))
 
   all_from_puts : ((line : Line) → Memᴰ line (lines_of (the_record j k)) → FromPuts (IsOperation j.count) line) × ((x : ℕ) → Memᴰ x (left j k) → IsOperation j.count x)
-  all_from_puts = played (IsOperation j.count) j.object (lines_of (the_record j k)) [] (left j k) ex.allowed put_operation (λ x m. absurd (Memᴰ.not_nil m))
+  all_from_puts = played (IsOperation j.count) j.object (lines_of (the_record j k)) [] (left j k) ex.allowed put_operation (λ x m. absurd (Memᴰ.not-nil m))
 
   -- every line has a member, and hands out an operation's item
   pub line_from_puts : (r : Recorded) → Memᴰ r (the_record j k) → FromPuts (IsOperation j.count) r.line

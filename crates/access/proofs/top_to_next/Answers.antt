@@ -1,0 +1,14 @@
+-- `access::top_to_next` meets its contract: the definition computes to the answer. Assumes nothing.
+use mathlib.Core.Path.{refl}
+use Rattle.machine.specs.Memory.{with_top}
+use Rattle.machine.specs.Access.{access, have_set}
+use Rattle.machine.specs.Notes.{event_of}
+use Rattle.access.specs.Nodes.{memory_of}
+use Rattle.access.specs.View.{reached_from, reached_by}
+use Rattle.access.proofs.top_to_next.Goals as goal
+
+pub returns : goal.returns
+unfolding access have_set reached_from reached_by memory_of event_of with_top
+returns c =     λ own.
+    rw (c.answer.ensures, c.set_from_to.ensures, c.cell.ensures, c.yes_if_same-outcome.ensures)
+    (record { reaches = refl; tells = refl })

@@ -1,2 +1,0 @@
--- A place in memory.
-pub mod Values
