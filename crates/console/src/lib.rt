@@ -44,3 +44,57 @@ pub fn show<W: Write>(to: &mut W, bytes: &[u8], count: usize) -> bool
     }
     to.write_all(&bytes[..count]).is_ok()
 }
+
+#[cfg(test)]
+mod tests {
+    use super::{read_full, refuse, show};
+    use std::io;
+    use std::io::Read;
+    use std::test::Fail;
+
+    #[test]
+    fn refusals(rt: HostRuntime) -> Result<(), Fail> {
+        let mut said = Vec::new(rt.alloc());
+        assert!(rt; refuse(&mut said, 7));
+        assert!(rt; refuse(&mut said, 13));
+        assert_eq!(rt; said.as_slice(), b"refused 7\nrefused 13\n".as_slice());
+        Ok(())
+    }
+
+    #[test]
+    fn first_bytes(rt: HostRuntime) -> Result<(), Fail> {
+        let mut said = Vec::new(rt.alloc());
+        assert!(rt; show(&mut said, b"left 0", 4));
+        assert!(rt; !show(&mut said, b"left 0", 7));
+        assert_eq!(rt; said.as_slice(), b"left".as_slice());
+        Ok(())
+    }
+
+    // Gives two bytes at a time, so often, and fails then.
+    #[derive(Drop)]
+    struct Pairs(u8);
+
+    impl Read for Pairs {
+        fn read(&mut self, buf: &mut [u8]) -> io::Result<usize> {
+            if self.0 == 0 || buf.len() < 2 {
+                return Err(io::Error::from(io::ErrorKind::Other));
+            }
+            self.0 -= 1;
+            buf[0] = 8;
+            buf[1] = 9;
+            Ok(2)
+        }
+    }
+
+    #[test]
+    fn inputs(rt: HostRuntime) {
+        let mut memory = [0u8; 5];
+        assert_eq!(rt; read_full(&mut b"abc".as_slice(), &mut memory), 3);
+        assert_eq!(rt; memory, [b'a', b'b', b'c', 0, 0]);
+        assert_eq!(rt; read_full(&mut b"defghi".as_slice(), &mut memory), 5);
+        assert_eq!(rt; memory, *b"defgh");
+        assert_eq!(rt; read_full(&mut Pairs(1), &mut memory), 2);
+        assert_eq!(rt; memory, [8, 9, b'f', b'g', b'h']);
+        assert_eq!(rt; read_full(&mut Pairs(3), &mut memory), 4);
+    }
+}
