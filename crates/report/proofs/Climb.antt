@@ -67,11 +67,17 @@ abbrev last_of : ℕ → List ℕ → ℕ
 last_of i [] = i
 last_of i (x ∷ l) = last_of x l
 
-climb_last : {upper : ℕ → ℕ} (i : ℕ) {l : List ℕ} (count : ℕ) → Nodes upper (upper i) l → length l ≤ count → climb upper i count ≡ last_of i l
+climb_from : {upper : ℕ → ℕ} (i count : ℕ) {v : ℕ} {l : List ℕ} → Nodes upper v l → upper i ≡ v → length l ≤ count → climb upper i count ≡ last_of i l
 unfolding climb
-climb_last {upper} i count (end e) h = climb_end upper i count e
-climb_last i zero (node n c) h = absurd (omega arith)
-climb_last {upper} i (suc count) (node n c) h = pick_else i (climb upper (upper i) count) (unequal_same n) ∙ climb_last (upper i) count c (omega arith)
+climb_from {upper} i count (end e) u h = climb_end upper i count (u ∙ e)
+climb_from i zero (node n c) u h = absurd (omega arith)
+climb_from {upper} i (suc count) (node {i = x} n c) u h =
+    pick_else i (climb upper (upper i) count) (unequal_same (λ z. n (sym u ∙ z)))
+    ∙ ap (λ (y : ℕ). climb upper y count) u
+    ∙ climb_from x count c refl (omega arith)
+
+climb_last : {upper : ℕ → ℕ} (i : ℕ) {l : List ℕ} (count : ℕ) → Nodes upper (upper i) l → length l ≤ count → climb upper i count ≡ last_of i l
+climb_last i count c h = climb_from i count c refl h
 
 last_behind : (i x : ℕ) (l behind : List ℕ) → last_of i (reverse_aux l (x ∷ behind)) ≡ last_of x behind
 last_behind i x [] behind = refl
