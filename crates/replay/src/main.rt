@@ -1,12 +1,15 @@
 // Replays the job file on standard input, with the window block in the file that the argument names: prints its report, or `refused`, a space and the number.
 #![tactic(auto)]
 
-ghost use Rattle.io.specs.Counts.{IsPrefixLen};
+ghost use Rattle.console.specs.Counts.{IsPrefixLen};
 
 use block::Checked;
-use console::{refuse, show};
+use console::{read_full, refuse, show};
 use job::Limits;
-use libc::{STDIN_FILENO, STDOUT_FILENO};
+use std::env::FillError;
+use std::fs;
+use std::io::Read;
+use std::rt::{Env, Files};
 
 // One byte more than the longest file, and than a block, so that a longer input is seen to be longer: its length is refused.
 const INPUT: usize = Limits::FILE + 1;
@@ -28,48 +31,43 @@ fn up_to(n: usize, of: &[u8]) -> usize
 
 // How many bytes a file has, which then stand in front: at most as many as the memory has, and as many where it cannot be read, so that it
 // is refused as a longer one is.
-fn load(fd: i32, to: &mut [u8]) -> usize
+fn load<R: Read>(from: &mut R, to: &mut [u8]) -> usize
     ensures { IsPrefixLen result to.new }
 {
-    let got = libc::read(fd, to);
-    if got < 0 {
+    let Ok(front) = from.read(to) else {
         return to.len();
-    }
-    let front = io::count(got, to);
-    let more = io::read_full(fd, &mut to[front..]);
+    };
+    let more = read_full(from, &mut to[front..]);
     up_to(front + more, to)
 }
 
-// The same of the file that the argument names; without one it is empty.
-fn load_windows(to: &mut [u8]) -> usize
+// The same of the file that the argument names; without one it is empty. A name that is no text cannot be opened.
+fn load_windows<R: Env + Files>(rt: &R, to: &mut [u8]) -> usize
     ensures { IsPrefixLen result to.new }
 {
-    let arguments = os::arg_count();
-    if arguments < 2 {
-        return 0;
-    }
-    if 2 < arguments {
-        return to.len();
-    }
     let mut name = [0u8; NAME];
-    let length = os::arg(1, &mut name);
-    if os::errno() != 0 {
+    let Err(FillError::NotPresent) = rt.arg(2, &mut name) else {
         return to.len();
-    }
-    let fd = os::open_read(&name[..length]);
-    if fd < 0 {
+    };
+    let length = match rt.arg(1, &mut name) {
+        Ok(length) => length,
+        Err(FillError::NotPresent) => return 0,
+        Err(FillError::TooLong) => return to.len(),
+    };
+    let Ok(name) = str::from_utf8(&name[..length]) else {
         return to.len();
-    }
-    let n = load(fd, to);
-    libc::close(fd);
-    n
+    };
+    let Ok(mut file) = fs::open(rt, name) else {
+        return to.len();
+    };
+    load(&mut file, to)
 }
 
-fn main() {
+fn main(rt: HostRuntime) {
     let mut file = [0u8; INPUT];
-    let n = io::read_full(STDIN_FILENO, &mut file);
+    let n = read_full(&mut rt.stdin(), &mut file);
     let mut windows = [0u8; WINDOWS];
-    let m = load_windows(&mut windows);
+    let m = load_windows(&rt, &mut windows);
     let mut work = [0u8; Limits::STREAM];
     let mut report = [0u8; Limits::REPORT];
     let r = replayer::replay(
@@ -82,8 +80,8 @@ fn main() {
     let number = r.number;
     let length = r.length;
     if number != 0 {
-        refuse(STDOUT_FILENO, number);
+        refuse(&mut rt.stdout(), number);
     } else {
-        show(STDOUT_FILENO, &report, length);
+        show(&mut rt.stdout(), &report, length);
     }
 }

@@ -2,13 +2,15 @@
 // space and the number to standard error.
 #![tactic(auto)]
 
+ghost use Rattle.std.specs.Bool.{OnTrue};
 ghost use Rattle.std.specs.Prelude.{◌≤◌, length};
+ghost use Rattle.std.specs.Io.KnownBytes.{Appends};
 ghost use Rattle.text.specs.Laid.{Wrote};
 ghost use Rattle.remains.specs.Line.{kept_line};
 
-use console::{refuse, show};
+use console::{read_full, refuse, show};
 use job::Limits;
-use libc::{STDERR_FILENO, STDIN_FILENO, STDOUT_FILENO};
+use std::io::Write;
 use text::{put_bytes, put_labelled};
 
 // Room for the line: its words have 18 bytes, and each of its two numbers at most five digits.
@@ -24,27 +26,29 @@ fn put_line(to: &mut [u8], kept: u16, named: u16) -> usize
     put_bytes(to, next, b" entries\n")
 }
 
-// Says it on standard error.
-fn tell(kept: u16, named: u16) {
+// Says it, and whether it was written whole.
+fn tell<W: Write>(to: &mut W, kept: u16, named: u16) -> bool
+    ensures { OnTrue result (Appends (W.contents to.old) (W.contents to.new) (kept_line kept named)) }
+{
     let mut line = [0u8; LINE];
     let length = put_line(&mut line, kept, named);
-    show(STDERR_FILENO, &line, length);
+    show(to, &line, length)
 }
 
 // No more is read than the longest file has, since nothing behind it matters. The line is written only behind a file that was written whole.
-fn main() {
+fn main(rt: HostRuntime) {
     let mut file = [0u8; Limits::FILE];
-    let n = io::read_full(STDIN_FILENO, &mut file);
+    let n = read_full(&mut rt.stdin(), &mut file);
     let mut work = [0u8; Limits::STREAM];
     let mut out = [0u8; Limits::FILE];
     let r = salvager::salvage(Limits::field(), &file[..n], &mut work, &mut out);
     let number = r.number;
     let length = r.length;
     if number != 0 {
-        refuse(STDERR_FILENO, number);
+        refuse(&mut rt.stderr(), number);
         return;
     }
-    if show(STDOUT_FILENO, &out, length) {
-        tell(r.kept, r.named);
+    if show(&mut rt.stdout(), &out, length) {
+        tell(&mut rt.stderr(), r.kept, r.named);
     }
 }

@@ -1,0 +1,3 @@
+-- What the programs read and say.
+pub mod Counts
+pub mod Said
