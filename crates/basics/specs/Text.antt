@@ -3,7 +3,6 @@ use Rattle.std.specs.Prelude.{◌≡◌, refl, ℕ, zero, suc, ◌+◌, ◌/◌,
 use Rattle.std.proofs.Common.{sym, ap, subst, not-suc-le-zero, arith, nltb→le, lt→ltb, ltb→lt}
 use Prim.Native.Char.{code}
 use Prim.Native.String.{String}
-use Prim.Native.String
 use Rattle.basics.specs.Choice.{pick, less}
 
 -- the bytes of a text; every text here is ASCII, so a character is one byte

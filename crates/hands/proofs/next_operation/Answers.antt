@@ -2,7 +2,6 @@
 -- finds; the measure is how many operations are left. Assumes nothing.
 use native.Mathlib.Omega.{arith}
 use mathlib.Core.Path.{refl, sym, ◌∙◌}
-use Prim.Native.Nat.{◌-◌}
 use Rattle.job.proofs.Recorded.{has_record}
 use Rattle.hands.proofs.Hands.{search_begins, search_finds, search_passes, search_ends}
 use Rattle.std.proofs.Common.{rules}

@@ -15,8 +15,8 @@ use Rattle.run.proofs.Places.{LinedUp, lined_first, lined_next, lined_all}
 use Rattle.run.proofs.line_up.Goals as goal
 
 -- nobody's place, in all cells at first
-first-is : {stream : List ℕ} {job : Heading} {r : Place} → Runnable stream job → r ≡ before (job_of stream) (operation_after (job_of stream) nobody job.count) → LinedUp (job_of stream) 0 (replicate run_places r)
-first-is {stream} r e = lined_first _ (free r) _ (e ∙ ap (λ (n : ℕ). before (job_of stream) (operation_after (job_of stream) nobody n)) (its_count r))
+first_is : {stream : List ℕ} {job : Heading} {r : Place} → Runnable stream job → r ≡ before (job_of stream) (operation_after (job_of stream) nobody job.count) → LinedUp (job_of stream) 0 (replicate run_places r)
+first_is {stream} r e = lined_first _ (free r) _ (e ∙ ap (λ (n : ℕ). before (job_of stream) (operation_after (job_of stream) nobody n)) (its_count r))
 
 pub loop-p-preserved : goal.loop-p-preserved
 loop-p-preserved c = (omega arith, lined_next _ _ _ _ (omega arith) c.loop-p.invariant.1 c.place_after-place.ensures)
@@ -28,7 +28,7 @@ pub place_after-nobody-requires : goal.place_after-nobody-requires
 place_after-nobody-requires c = (c.requires, omega arith)
 
 pub loop-p-init : goal.loop-p-init
-loop-p-init c = (omega arith, first-is c.requires c.place_after-nobody.ensures)
+loop-p-init c = (omega arith, first_is c.requires c.place_after-nobody.ensures)
 
 pub place_after-place-requires : goal.place_after-place-requires
 place_after-place-requires c = (c.requires, omega arith)

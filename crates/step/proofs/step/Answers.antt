@@ -36,14 +36,14 @@ stepped d w =
     record { row = w; h = d.h; t = d.t; n = d.n; head = d.head; tail = d.tail; top = d.top }
 
 -- an entry that was looked up, its access done, and the row after it
-access-and-successor-are-the-step :
+access_and_successor_are_the_step :
     {p : Place} {head tail top : ℕ} {nodes nodes' : List ℕ} {e : Entry} {d : Accessed} {w : Row} →
     e ≡ row_of p.row →
     Does e.access p.operation.0 (cells_of p head tail top) nodes d nodes' →
     w ≡ successor e d.outcome →
     IsStep p head tail top nodes (stepped d w) nodes'
 unfolding reached_from reached_by reached reach registers row_after
-access-and-successor-are-the-step {p} {head} {tail} {top} {nodes} {nodes'} {e} {d} looked did after =
+access_and_successor_are_the_step {p} {head} {tail} {top} {nodes} {nodes'} {e} {d} looked did after =
     let there : reached_by d nodes' ≡ reached (memory_of head tail top nodes) p =
     did.reaches
     ∙ ap (λ (x : Entry). reached_from x.access p.operation.0 (cells_of p head tail top) nodes) looked in
@@ -62,8 +62,8 @@ unfolding heard event_at acted reached_from reached reach registers
 event_is p head tail top nodes looked = ap (λ (x : Entry). heard x.access p.operation.0 (cells_of p head tail top) nodes) looked
 
 -- and what was counted is whether the row after it is Q1 or T1
-counted-as : (row : Row) (o k : ℕ) (before : Cells) (outcome : Outcome) {e : Entry} {w : Row} {event event' : Event} {after : Cells} → e ≡ row_of row → ended row ≡ false → w ≡ successor e outcome → event ≡ event' → after ≡ counted (goes_back e.access outcome) (noted event o k before) → after ≡ counted (is_return w) (noted event' o k before)
-counted-as row o k before outcome looked going next same count =
+counted_as : (row : Row) (o k : ℕ) (before : Cells) (outcome : Outcome) {e : Entry} {w : Row} {event event' : Event} {after : Cells} → e ≡ row_of row → ended row ≡ false → w ≡ successor e outcome → event ≡ event' → after ≡ counted (goes_back e.access outcome) (noted event o k before) → after ≡ counted (is_return w) (noted event' o k before)
+counted_as row o k before outcome looked going next same count =
     let back =
     ap (λ (x : Entry). goes_back x.access outcome) looked
     ∙ sym (returns_is row going outcome)
@@ -76,4 +76,4 @@ pub perform-d-requires : goal.perform-d-requires
 perform-d-requires c = (c.requires.row_value.1, room_as (event_is _ _ _ _ _ c.row_of-e.ensures) c.requires.has_cells.0, c.requires.has_cells.1)
 
 pub returns : goal.returns
-returns c = let looked = c.row_of-e.ensures in record { step = access-and-successor-are-the-step looked c.perform-d.ensures.does c.successor-row.ensures; ops_after = counted-as _ _ _ _ _ looked c.requires.row_value.0 c.successor-row.ensures (event_is _ _ _ _ _ looked) c.perform-d.ensures.ops_after }
+returns c = let looked = c.row_of-e.ensures in record { step = access_and_successor_are_the_step looked c.perform-d.ensures.does c.successor-row.ensures; ops_after = counted_as _ _ _ _ _ looked c.requires.row_value.0 c.successor-row.ensures (event_is _ _ _ _ _ looked) c.perform-d.ensures.ops_after }

@@ -1,7 +1,6 @@
 -- `windows::bad_entries` meets its contract. The loop's invariant: the entries that are left decide. The measure is their number.
 -- Assumes nothing.
 use mathlib.Core.Path.{refl, sym, ◌∙◌}
-use Prim.Native.Nat.{◌-◌}
 use Rattle.job.proofs.Conditions.{any_met, any_next, any_end}
 use Rattle.windows.specs.Refused.{bad_window, bad_entries}
 use native.Mathlib.Omega.{arith}

@@ -1,7 +1,6 @@
 -- `windows::bad_rest` meets its contract. The loop's invariant: the bytes that are left decide. The measure is their number.
 -- Assumes nothing.
 use mathlib.Core.Path.{refl, ap, ◌∙◌}
-use Prim.Native.Nat.{◌-◌}
 use mathlib.Core.Bool.{not}
 use Rattle.basics.specs.Maps.{at}
 use Rattle.basics.proofs.Choice.{equal_same, unequal_same}

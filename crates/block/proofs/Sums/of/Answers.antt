@@ -1,6 +1,6 @@
 -- `block::Sums::of` meets its contract. The loop's invariant: adding the bytes that are left gives the sums. The measure is
 -- their number. Assumes nothing.
-use Rattle.std.proofs.Common.{ℕ, ◌+◌, ◌-◌, List, drop, refl, ap, ◌∙◌, arith}
+use Rattle.std.proofs.Common.{ℕ, ◌+◌, List, drop, refl, ap, ◌∙◌, arith}
 use Rattle.block.specs.Block.{add_bytes, sums}
 use Rattle.block.specs.declared.Sums.{Sums}
 use Rattle.block.proofs.AddBytes.{add_next, add_end}
