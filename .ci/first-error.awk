@@ -2,8 +2,8 @@
 # rt check says of it, or, with -v short=1, on what rt ci and rt must-fail say of it in a line: the start of one error, which need not be the first.
 # Prints 'fact' or 'no fact', then a tab, and what failed; of a line also 'look' where it tells too little, or 'told' and the line where it is no refusal.
 
-# the edit: which files it changes
-FNR == NR { if (sub(/^file: /, "")) edited[$0] = 1; next }
+# The edit: which files it changes. A proof file of these only follows the code, as where a goal has a number of the code in its name.
+FNR == NR { if (sub(/^file: /, "") && !/^proofs\//) edited[$0] = 1; next }
 
 short {
     told = $0
