@@ -170,7 +170,8 @@ impl Room {
     /// Runs it as a user whom permissions bind.
     pub fn bench_as_nobody(&self, arguments: &str) -> Ran {
         let program = self.0.join("bench");
-        fs::copy(env!("CARGO_BIN_EXE_bench"), &program).unwrap();
+        // by another process: a child that a test beside this one starts meanwhile would hold the copy open for writing, and it could not be run
+        assert!(Command::new("cp").arg(env!("CARGO_BIN_EXE_bench")).arg(&program).status().unwrap().success());
         // only root has to become somebody else
         let mut command = Command::new("sh");
         let become_nobody =
