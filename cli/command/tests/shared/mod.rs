@@ -191,6 +191,13 @@ impl Room {
     }
 }
 
+/// Nothing stays below target/: a link there would have `rt ci` refuse the checkout.
+impl Drop for Room {
+    fn drop(&mut self) {
+        let _ = fs::remove_dir_all(&self.0);
+    }
+}
+
 impl Ran {
     /// This exit status and output, and these words on standard error; none there where no words are given.
     #[track_caller]
