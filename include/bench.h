@@ -1,4 +1,4 @@
-/* The bench's calls for C and C++. `rt staticlib bench` writes target/staticlib/libbench.a, for x86-64 Linux; of a C library it needs memset
+/* The bench's calls for C and C++. `sh bin/library` writes target/staticlib/libbench.a, for x86-64 Linux; of a C library it needs memset
  * alone. README.md has the commands, examples/report.c is a whole program.
  *
  * What a caller must know:

@@ -170,7 +170,8 @@ impl Room {
     /// Runs it as a user whom permissions bind.
     pub fn bench_as_nobody(&self, arguments: &str) -> Ran {
         let program = self.0.join("bench");
-        fs::copy(env!("CARGO_BIN_EXE_bench"), &program).unwrap();
+        // by another process: a child that a test beside this one starts meanwhile would hold the copy open for writing, and it could not be run
+        assert!(Command::new("cp").arg(env!("CARGO_BIN_EXE_bench")).arg(&program).status().unwrap().success());
         // only root has to become somebody else
         let mut command = Command::new("sh");
         let become_nobody =
@@ -187,6 +188,13 @@ impl Room {
         let output = child.wait_with_output().unwrap();
         let text = |bytes: Vec<u8>| String::from_utf8_lossy(&bytes).into_owned();
         Ran { status: output.status.code().unwrap(), out: text(output.stdout), said: text(output.stderr) }
+    }
+}
+
+/// Nothing stays below target/: a link there would have `rt ci` refuse the checkout.
+impl Drop for Room {
+    fn drop(&mut self) {
+        let _ = fs::remove_dir_all(&self.0);
     }
 }
 
