@@ -1,6 +1,6 @@
 -- Spoiled files and what remains of each, as one table. Numbers, entries and files are worked out from document 02 by hand: a block has 506 bytes of the
 -- stream, so one put and 496 entries fill the first block. `rows_proved` says that the definitions give them, by computation. Number 1 is of lent memory.
-use Rattle.std.specs.Prelude.{◌≡◌, refl, ℕ, suc, ◌-◌, ◌*◌, List, [], ◌∷◌, ◌++◌, map, take, drop, replicate}
+use Rattle.std.specs.Prelude.{◌≡◌, refl, ℕ, suc, ◌*◌, List, [], ◌∷◌, ◌++◌, map, take, drop, replicate}
 use Rattle.basics.specs.Choice.{pick, same, less}
 use Rattle.basics.specs.Maps.{at}
 use Rattle.basics.specs.Words.{word, word_bytes}

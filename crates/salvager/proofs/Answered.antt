@@ -1,7 +1,7 @@
 -- What a salvage gives and leaves: refused, written, and for the whole file by the sizes of the lent memories. Assumes nothing.
 use mathlib.Core.Path.{◌≡◌, refl, sym, ap, ◌∙◌}
 use mathlib.Core.Logic.{◌≢◌, ◌⊎◌, inl, inr}
-use Prim.Native.Nat.{ℕ, ◌+◌, ◌-◌, ◌≤◌, ◌<◌}
+use Prim.Native.Nat.{ℕ, ◌≤◌, ◌<◌}
 use native.Mathlib.Nat.{sub-zero}
 use native.Mathlib.Omega.{arith}
 use mathlib.Core.Bool.{true, false, or-true}
@@ -18,7 +18,7 @@ use Rattle.job.specs.Stream.{schedule_length}
 use Rattle.job.specs.File.{zeros, file_of, file_refusal, stream_of, zeros_behind}
 use Rattle.job.specs.Job.{job_of}
 use Rattle.job.specs.Calls.{small_work, held, write_number, write_length, write_out}
-use Rattle.remains.specs.Kept.{kept, entries_kept, shortened}
+use Rattle.remains.specs.Kept.{entries_kept, shortened}
 use Rattle.remains.specs.Salvage.{kept_refusal, salvage_refusal, salvaged, kept_entries, named_entries, small_room, salvage_number, counted, salvage_length, salvage_out, salvage_work}
 use Rattle.remains.specs.Looked.{looked}
 use Rattle.remains.specs.Claims.{Undamaged, Proper, Blocks_of}

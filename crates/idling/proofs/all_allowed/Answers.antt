@@ -1,8 +1,6 @@
 -- `idling::all_allowed` meets its contract. The loop's invariant: those before p may act. The measure is how many are left. Assumes nothing.
-use Prim.Native.Nat.{◌-◌}
 use native.Mathlib.Omega.{arith}
 use borrow.Author.Count.{below_more}
-use borrow.Author.Tests.{not-false}
 use Rattle.idling.proofs.all_allowed.Goals as goal
 
 pub loop-p-init : goal.loop-p-init

@@ -1,6 +1,5 @@
 -- `idling::allowed_at` meets its contract. The loop's invariant: those before p are found. The measure is how many are left. Assumes nothing.
 use mathlib.Core.Path.{refl}
-use Prim.Native.Nat.{◌-◌}
 use native.Mathlib.Omega.{arith}
 use Rattle.idling.proofs.Eight.{filled_none, filled_next, filled_all}
 use Rattle.idling.proofs.allowed_at.Goals as goal

@@ -1,6 +1,5 @@
 -- `idling::bookings_of` meets its contract. The loop's invariant: the windows before p are found. The measure is how many are left. Assumes nothing.
 use mathlib.Core.Path.{refl, ◌∙◌}
-use Prim.Native.Nat.{◌-◌}
 use native.Mathlib.Omega.{arith}
 use Rattle.calendar.specs.Dates.{is_date, day_number}
 use Rattle.calendar.specs.Weekdays.{weekday}

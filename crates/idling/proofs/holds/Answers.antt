@@ -1,6 +1,5 @@
 -- `idling::holds` meets its contract: each test is a part of the condition. Assumes nothing.
 use mathlib.Core.Path.{sym}
-use borrow.Author.Tests.{not-true, not-false}
 use Rattle.basics.specs.Choice.{less}
 use Rattle.idling.proofs.Minutes.{unbooked, not_yet, by_closing}
 use Rattle.idling.proofs.holds.Goals as goal

@@ -1,6 +1,5 @@
 -- `idling::shut_steps` meets its contract: the loop's invariant is `Turning`; the measure is how many steps are left. Assumes nothing.
 use mathlib.Core.Path.{refl}
-use Prim.Native.Nat.{◌-◌}
 use native.Mathlib.Omega.{arith}
 use Rattle.job.proofs.Ready.{header_there}
 use Rattle.idling.proofs.Turns.{turning_start, turning_short, turning_fits, turning_done, turning_minute, turning_on, turning_named, turning_next}

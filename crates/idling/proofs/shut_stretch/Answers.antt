@@ -1,7 +1,7 @@
 -- `idling::shut_stretch` meets its contract. The loop's invariant: the entries before i are written. The measure is how many are left. Assumes
 -- nothing.
 use mathlib.Core.Path.{sym, subst}
-use Prim.Native.Nat.{ℕ, ◌-◌, ◌<◌}
+use Prim.Native.Nat.{ℕ, ◌<◌}
 use native.Mathlib.Omega.{arith}
 use Rattle.basics.specs.Maps.{at}
 use Rattle.job.specs.Limits.{field}

@@ -1,7 +1,6 @@
 -- `lines::bound_takers` meets its contract. The loop's invariant: the bounds by `o` operations from either end. The measure is how many
 -- operations are left. Assumes nothing.
 use mathlib.Core.Path.{refl}
-use Prim.Native.Nat.{◌-◌}
 use native.Mathlib.Omega.{arith}
 use Rattle.lines.proofs.Bounds.{bounded_none, bounded_more, bounded_all, item_within}
 use Rattle.std.proofs.Common.{rules}

@@ -1,6 +1,5 @@
 -- `lines::left_count` meets its contract. The loop's invariant: what was counted and what is left from node `i` on make the whole. The
 -- measure is how many nodes may still come. Assumes nothing.
-use Prim.Native.Nat.{◌-◌}
 use Rattle.lines.proofs.Left.{counting_none, counted, counted_all, counting_more, counting_past}
 use Rattle.std.proofs.Common.{rules}
 use Rattle.lines.proofs.left_count.Goals as goal

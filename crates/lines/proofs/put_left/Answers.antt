@@ -1,6 +1,5 @@
 -- `lines::put_left` meets its contract. The loop's invariant: what is left from node `i` on is still to be written. The measure is how
 -- many nodes may still come. Assumes nothing.
-use Prim.Native.Nat.{◌-◌}
 use Rattle.lines.proofs.Left.{leaving_none, left_written, left_written_all, leaving_room, leaving_more, leaving_past}
 use Rattle.std.proofs.Common.{rules}
 use Rattle.lines.proofs.put_left.Goals as goal

@@ -1,7 +1,6 @@
 -- `lines::put_takers` meets its contract. The loop's invariant: the takers up to `o` are written. The measure is how many operations are
 -- left. Assumes nothing.
 use mathlib.Core.Path.{refl, ap}
-use Prim.Native.Nat.{◌-◌}
 use native.Mathlib.Omega.{arith}
 use lib.ListN.{length}
 use Rattle.text.proofs.Laid.{wrote_as}

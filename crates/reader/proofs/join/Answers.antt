@@ -1,7 +1,7 @@
 -- `reader::join` meets its contract. The loop's invariant: the blocks passed are joined, and those that are left decide. The
 -- measure is their number. Assumes nothing.
 use mathlib.Core.Path.{sym, ap, ◌∙◌}
-use Prim.Native.Nat.{◌*◌, ◌-◌}
+use Prim.Native.Nat.{◌*◌}
 use lib.ListN.{drop}
 use Rattle.block.specs.Block.{block_size, payload_size}
 use Rattle.block.proofs.Given.{refused_number}

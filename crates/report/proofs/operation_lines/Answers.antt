@@ -1,7 +1,7 @@
 -- `report::operation_lines` meets its contract. The loop's invariant: the lines of operations up to `o` are written. The measure is how many
 -- are left. Assumes nothing.
 use mathlib.Core.Path.{ap}
-use Prim.Native.Nat.{◌+◌, ◌-◌}
+use Prim.Native.Nat.{◌+◌}
 use native.Mathlib.Omega.{arith}
 use lib.ListN.{length}
 use Rattle.job.specs.Job.{job_of}

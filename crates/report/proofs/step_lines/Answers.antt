@@ -1,7 +1,7 @@
 -- `report::step_lines` meets its contract. The loop's invariant: the lines of the steps up to `s` are written. The measure is how many
 -- steps are left. Assumes nothing.
 use mathlib.Core.Path.{ap}
-use Prim.Native.Nat.{◌+◌, ◌-◌}
+use Prim.Native.Nat.{◌+◌}
 use native.Mathlib.Omega.{arith}
 use lib.ListN.{length}
 use Rattle.basics.specs.Maps as Maps

@@ -1,7 +1,7 @@
 -- `run::line_up` meets its contract: the loop's invariant is that the places before p are lined up; the measure is how many are left. Assumes nothing.
 use mathlib.Core.Path.{◌≡◌, ap, ◌∙◌}
 use native.Mathlib.Omega.{arith}
-use Prim.Native.Nat.{ℕ, ◌-◌}
+use Prim.Native.Nat.{ℕ}
 use mathlib.Core.List.{List}
 use lib.ListN.{replicate}
 use Rattle.job.specs.declared.Heading.{Heading}

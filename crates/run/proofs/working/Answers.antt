@@ -1,8 +1,6 @@
 -- `run::working` meets its contract. The loop's invariant: those counted and those among the places that are left make the whole. The
 -- measure is how many places are left. Assumes nothing.
-use Prim.Native.Nat.{◌-◌}
 use native.Mathlib.Omega.{arith}
-use Rattle.run.specs.Promise as Promise
 use Rattle.run.proofs.Places.{counted_none, counted_one, counted_all}
 use Rattle.run.proofs.working.Goals as goal
 

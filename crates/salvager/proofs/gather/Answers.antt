@@ -1,6 +1,5 @@
 -- `salvager::gather` meets its contract. The loop's invariant: the blocks passed are taken, and none of them would be refused. The measure is the number of
 -- those that are left. Assumes nothing.
-use Prim.Native.Nat.{◌-◌}
 use Rattle.block.specs.Block.{block_size, payload_size}
 use Rattle.block.proofs.Given.{refused_number}
 use Rattle.salvager.proofs.Gathering.{gathering_none, gathering_next, refused_ends, refused_left, all_counted, all_left}

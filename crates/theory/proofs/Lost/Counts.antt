@@ -10,7 +10,7 @@ use Rattle.job.specs.Job.{Job}
 use Rattle.machine.specs.Multiplicity.Line.{put}
 use Rattle.machine.specs.Notes.{Note, idle, note}
 use Rattle.machine.specs.Journal.{is_linked, made, links, link}
-use Rattle.machine.specs.Drops.{dropped, drop}
+use Rattle.machine.specs.Drops.{dropped}
 use Rattle.machine.specs.Effects.Effect.{stands}
 use Rattle.machine.specs.Record.{line_at, lines_to, the_record, lines_of}
 use Rattle.machine.specs.Explained.{IsOperation, put_lines}

@@ -14,7 +14,7 @@ use Rattle.machine.specs.Table.{first_row}
 use Rattle.machine.specs.Run.{before, registers, state_after}
 use Rattle.machine.specs.Notes.{note}
 use Rattle.machine.specs.Journal.{is_linked, link}
-use Rattle.machine.specs.Drops.{dropped, drop}
+use Rattle.machine.specs.Drops.{drop}
 use Rattle.machine.specs.Lost.{tally}
 use Rattle.machine.proofs.Effected.{linked_event}
 use Rattle.machine.proofs.Stamps.{link_other, link_unless}
@@ -22,7 +22,7 @@ use Rattle.machine.proofs.Turns.Locals.{Local, at_row}
 use Rattle.theory.proofs.Course.{Course, PassesIn, ActsIn, passes_event}
 use Rattle.theory.proofs.Operations.{course}
 use Rattle.theory.proofs.Operations.Locals.{memory}
-use Rattle.theory.proofs.Queue.Memory.{Now, Still.quiet, Change, Change.stays, Change.links}
+use Rattle.theory.proofs.Queue.Memory.{Now, Still.quiet, Change, Change.stays}
 use Rattle.theory.proofs.Queue.Grows.{Grows, change_grows}
 use Rattle.theory.proofs.Queue.Now.{now, passes_keeps}
 use Rattle.theory.proofs.Queue.Always.{always, step_changes}

@@ -1,6 +1,5 @@
 -- `writer::put_blocks` meets its contract. The loop's invariant: the blocks passed are laid. The measure is the number of those that
 -- are left. Assumes nothing.
-use Prim.Native.Nat.{◌-◌}
 use Rattle.block.specs.Block.{block_size}
 use Rattle.writer.proofs.Laying.{laying_none, block_begins, laying_next, laying_all}
 use native.Mathlib.Omega.{arith}
