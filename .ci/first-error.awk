@@ -91,6 +91,9 @@ function fault(    said) {
     if (is_not_bound(said)) return "a name that is not bound"
     if (said ~ /^`omega`: the goal does not follow |^`search`: no proof of |^`cc`: the equations do not join |^`rw`: no part of the goal /) return ""
     if (said ~ /^give a proof of that as the last argument, /) return ""
+    # an end of a path, or an index that a constructor gives, is another value than the goal's
+    if (said ~ /^on the face `[^`]*` this λ's body is `[^`]*`, but the extension \(path\) type/) return ""
+    if (said ~ /^this `[^`]*` lands at index `[^`]*` \(position [0-9]+\) but the expected type /) return ""
     if (said ~ /^expected type `|^(as printed|computed as far as they go), the two (types|values|indices) /) return differ()
     return "not known as the failure of a fact"
 }
