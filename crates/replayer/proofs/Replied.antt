@@ -38,14 +38,15 @@ use Rattle.replayer.specs.Replay.{small_memory, input_refusal, job_in, processes
 
 -- what a replay says and leaves
 abbrev pub Replied : Limits → List ℕ → List ℕ → List ℕ → List ℕ → ℕ → ℕ → List ℕ → List ℕ → Type 0
-Replied l file windows work out number size out' work' =
-    (number ≡ replay_number l file windows work out)
-    × ((size ≡ replay_length l file windows work out)
-    × ((out' ≡ replay_report l file windows work out)
-    × ((work' ≡ replay_work l work out)
-    × ((number ≡ 0 → Explained (job_run file windows) (job_run file windows).steps)
-    × ((number ≡ 0 → (job_in file).object ≡ Queue → Bounded (job_run file windows) (job_run file windows).steps (processes_in file))
-    × (number ≡ 0 → SameAsCut (shut_in file windows) (job_in file)))))))
+Replied l file windows work₀ out n length' out' work' = record {
+  number : n ≡ replay_number l file windows work₀ out;
+  size : length' ≡ replay_length l file windows work₀ out;
+  report : out' ≡ replay_report l file windows work₀ out;
+  work : work' ≡ replay_work l work₀ out;
+  explained : n ≡ 0 → Explained (job_run file windows) (job_run file windows).steps;
+  bounded : n ≡ 0 → (job_in file).object ≡ Queue → Bounded (job_run file windows) (job_run file windows).steps (processes_in file);
+  cut : n ≡ 0 → SameAsCut (shut_in file windows) (job_in file);
+}
 
 module _ (l : Limits) (file windows work out : List ℕ) where
   -- what follows from the number alone
@@ -53,7 +54,15 @@ module _ (l : Limits) (file windows work out : List ℕ) where
   unfolding replay_length replay_report
   refused e n z w =
       let no : same (replay_number l file windows work out) 0 ≡ false = unequal_same (λ q. n (e ∙ q)) in
-      (e, (z ∙ sym (pick_else _ _ no), (sym (pick_else _ _ no), (w, (λ a. absurd (n a), (λ a. absurd (n a), λ a. absurd (n a)))))))
+      record {
+        number = e;
+        size = z ∙ sym (pick_else _ _ no);
+        report = sym (pick_else _ _ no);
+        work = w;
+        explained = λ a. absurd (n a);
+        bounded = λ a. absurd (n a);
+        cut = λ a. absurd (n a);
+      }
 
   -- the report memory is too small: nothing is touched
   pub small_refused : {number size : ℕ} → length out < l.report → number ≡ 1 → size ≡ 0 → Replied l file windows work out number size out work
@@ -185,15 +194,16 @@ module _ (l : Limits) (file windows work out : List ℕ) where
           let none : replay_number l file windows work out ≡ 0 = number_by_windows ∙ pick_else _ _ fine in
           let met : same (replay_number l file windows work out) 0 ≡ true = equal_same none in
           let text : report (windowed windows (job_of (take (most_stream l) work₁))) ≡ report (windowed windows (job_in file)) = ap (λ w. report (windowed windows (job_of (take (most_stream l) w)))) r ∙ ap (λ j. report (windowed windows j)) read_job in
-          let holds = run_holds sound in (
-            e ∙ sym none,
-            (
-              told.tells ∙ ap length text ∙ sym (pick_then _ _ met),
-              (
+          let holds = run_holds sound in
+          record {
+            number = e ∙ sym none;
+            size = told.tells ∙ ap length text ∙ sym (pick_then _ _ met);
+            report =
                 told.writes
-                    ∙ (λ i. text i ++ drop (zero-add (length (text i)) i) out)
-                    ∙ sym (pick_then _ _ met),
-                (work_cleared work₁ r w, (λ a. holds.0, (λ a. holds.1.0, λ a. holds.1.1))),
-              ),
-            ),
-          )
+                ∙ (λ i. text i ++ drop (zero-add (length (text i)) i) out)
+                ∙ sym (pick_then _ _ met);
+            work = work_cleared work₁ r w;
+            explained = λ a. holds.0;
+            bounded = λ a. holds.1.0;
+            cut = λ a. holds.1.1;
+          }

@@ -68,17 +68,6 @@ written_saved l s before after w r e done count named told =
       left = done.2 ∙ alike _ _ _ _ before e (λ z. refl);
     }
 
--- the number, the counts and both memories of a call, and what else holds
-abbrev pub Told : Limits → List ℕ → List ℕ → List ℕ → List ℕ → List ℕ → SalvageReply → Type 0 → Type 0
-Told l file work out work' out' r else_holds =
-    (r.number ≡ salvage_number l file work out)
-    × ((r.length ≡ salvage_length l file work out)
-    × ((r.kept ≡ counted l file work out (kept_entries file))
-    × ((r.named ≡ counted l file work out (named_entries file))
-    × ((out' ≡ salvage_out l file work out)
-    × ((work' ≡ salvage_work l work out)
-    × else_holds)))))
-
 -- what is true of every salvage
 abbrev pub Claimed : Limits → List ℕ → Type 0
 Claimed l file =
@@ -86,17 +75,41 @@ Claimed l file =
     × ((salvage_refusal l file ≡ 0 → Proper l file)
     × (salvage_refusal l file ≡ 0 → (whole : List ℕ) → file_refusal l whole ≡ 0 → Blocks_of whole file → KeptRun (job_of (stream_of whole)) (job_of (stream_of (salvaged file)))))
 
+-- all that a call is told: the number, the counts, both memories, and what is true of every salvage
+abbrev pub Told : Limits → List ℕ → List ℕ → List ℕ → List ℕ → List ℕ → SalvageReply → Type 0
+Told l file work₀ out₀ work' out' r = record {
+  number : r.number ≡ salvage_number l file work₀ out₀;
+  size : r.length ≡ salvage_length l file work₀ out₀;
+  kept : r.kept ≡ counted l file work₀ out₀ (kept_entries file);
+  named : r.named ≡ counted l file work₀ out₀ (named_entries file);
+  out : out' ≡ salvage_out l file work₀ out₀;
+  work : work' ≡ salvage_work l work₀ out₀;
+  undamaged : file_refusal l file ≡ 0 → Undamaged l file;
+  proper : salvage_refusal l file ≡ 0 → Proper l file;
+  answers : salvage_refusal l file ≡ 0 → (whole : List ℕ) → file_refusal l whole ≡ 0 → Blocks_of whole file → KeptRun (job_of (stream_of whole)) (job_of (stream_of (salvaged file)));
+}
+
 pub claimed : {l : Limits} → Sound l → (file : List ℕ) → Bytes file → Claimed l file
 claimed sound file bytes = (undamaged sound file bytes, (proper sound file, λ accepted whole good same. answers_kept sound file whole accepted good same))
 
 -- a memory is too small: number 1, and nothing is touched
 pub small_told : (l : Limits) (file work out : List ℕ) (r : SalvageReply) → small_room l work out ≡ true → (r.number ≡ 1) × (r.length ≡ 0) × (r.kept ≡ 0) × (r.named ≡ 0)
-    → Claimed l file → Told l file work out work out r (Claimed l file)
+    → Claimed l file → Told l file work out work out r
 unfolding salvage_length salvage_out salvage_work counted salvage_number
 small_told l file work out r small told claims =
     let one : salvage_number l file work out ≡ 1 = pick_then _ _ small in
     let not_zero : same (salvage_number l file work out) 0 ≡ false = unequal_same (λ z. let q : ◌≡◌ {A = ℕ} 1 0 = sym one ∙ z in omega arith) in
-    (told.0 ∙ sym one, (told.1 ∙ sym (pick_else _ _ not_zero), (told.2 ∙ sym (pick_else _ _ not_zero), (told.3 ∙ sym (pick_else _ _ not_zero), (sym (pick_else _ _ not_zero), (sym (pick_then _ _ small), claims))))))
+    record {
+      number = told.0 ∙ sym one;
+      size = told.1 ∙ sym (pick_else _ _ not_zero);
+      kept = told.2 ∙ sym (pick_else _ _ not_zero);
+      named = told.3 ∙ sym (pick_else _ _ not_zero);
+      out = sym (pick_else _ _ not_zero);
+      work = sym (pick_then _ _ small);
+      undamaged = claims.0;
+      proper = claims.1.0;
+      answers = claims.1.1;
+    }
 
 pub small_work_room : (l : Limits) (work out : List ℕ) → length work < most_stream l → small_room l work out ≡ true
 unfolding small_room small_work
@@ -108,20 +121,22 @@ small_out_room l work out h = simp (lt_less h, or-true)
 
 -- both are large enough: what the leading blocks give, and a clear work memory
 pub large_told : {l : Limits} → Sound l → (file work out work' out' : List ℕ) (r : SalvageReply) → most_stream l ≤ length work → most_file l ≤ length out
-    → work' ≡ zeros (most_stream l) ++ drop (most_stream l) work → Saved l (looked l file) out out' r → Claimed l file → Told l file work out work' out' r (Claimed l file)
+    → work' ≡ zeros (most_stream l) ++ drop (most_stream l) work → Saved l (looked l file) out out' r → Claimed l file → Told l file work out work' out' r
 unfolding salvage_length salvage_out salvage_work counted salvage_number small_room small_work held zeros_behind accepted_or salvaged
 large_told {l} sound file work out work' out' r room large cleared s claims =
     let free : small_room l work out ≡ false = simp (le_less room, le_less large) in
     let number : kept_refusal l (looked l file) ≡ salvage_number l file work out = refusal_looked sound file ∙ sym (pick_else _ _ free) in
     let accepted : salvage_number l file work out ≡ 0 → salvage_refusal l file ≡ 0 = λ z. sym (pick_else _ _ free) ∙ z in
     let files : salvage_number l file work out ≡ 0 → file_of (shortened (looked l file)) ≡ salvaged file = λ z. ap file_of (shortened_looked sound file (accepted z)) in
-    let clear : zeros (most_stream l) ++ drop (most_stream l) work ≡ salvage_work l work out = ap (λ (n : ℕ). zeros n ++ drop (most_stream l) work) (sym (sub-zero (most_stream l))) ∙ sym (pick_else _ _ free) in (
-      s.number ∙ number,
-      (
-        s.size ∙ alike _ _ _ _ 0 number (λ z. ap length (files z)),
-        (
-          s.kept ∙ alike _ _ _ _ 0 number (λ z. entries_looked sound file (accepted z)),
-          (s.named ∙ alike _ _ _ _ 0 number (λ z. named_looked sound file (accepted z)), (s.left ∙ alike _ _ _ _ out number (λ z. ap (λ (x : List ℕ). over x out) (files z)), (cleared ∙ clear, claims))),
-        ),
-      ),
-    )
+    let clear : zeros (most_stream l) ++ drop (most_stream l) work ≡ salvage_work l work out = ap (λ (n : ℕ). zeros n ++ drop (most_stream l) work) (sym (sub-zero (most_stream l))) ∙ sym (pick_else _ _ free) in
+    record {
+      number = s.number ∙ number;
+      size = s.size ∙ alike _ _ _ _ 0 number (λ z. ap length (files z));
+      kept = s.kept ∙ alike _ _ _ _ 0 number (λ z. entries_looked sound file (accepted z));
+      named = s.named ∙ alike _ _ _ _ 0 number (λ z. named_looked sound file (accepted z));
+      out = s.left ∙ alike _ _ _ _ out number (λ z. ap (λ (x : List ℕ). over x out) (files z));
+      work = cleared ∙ clear;
+      undamaged = claims.0;
+      proper = claims.1.0;
+      answers = claims.1.1;
+    }

@@ -59,17 +59,17 @@ module _ {a b : Access} {own : ℕ} {c : Access.Scalars} {nodes nodes' : List �
   room = room_as event_is
 
   -- and, noted, it is done and entered; `count` says what was counted then
-  done_and_counted : {r : Accessed} {after : Cells} (k : ℕ) (before : Cells) {noted_cells : Cells} → r ≡ d → noted_cells ≡ noted d.event own k before → after ≡ counted (goes_back b d.outcome) noted_cells → Does a own c nodes r nodes' × (after ≡ counted (goes_back a r.outcome) (noted (heard a own c nodes) own k before))
-  done_and_counted k before same entered count = (
-    subst (λ (x : Access × Accessed). Does x.0 own c nodes x.1 nodes') (λ i. (sym arm i, sym same i)) did,
-    count ∙ (λ i. counted (goes_back (sym arm i) (sym same i).outcome) (noted_as own k before event_is entered i)),
-  )
+  done_and_counted : {r : Accessed} {after : Cells} (k : ℕ) (before : Cells) {noted_cells : Cells} → r ≡ d → noted_cells ≡ noted d.event own k before → after ≡ counted (goes_back b d.outcome) noted_cells → record { does : Does a own c nodes r nodes'; ops_after : after ≡ counted (goes_back a r.outcome) (noted (heard a own c nodes) own k before) }
+  done_and_counted k before same entered count = record {
+    does = subst (λ (x : Access × Accessed). Does x.0 own c nodes x.1 nodes') (λ i. (sym arm i, sym same i)) did;
+    ops_after = count ∙ (λ i. counted (goes_back (sym arm i) (sym same i).outcome) (noted_as own k before event_is entered i));
+  }
 
   -- one that may go back is counted behind that
-  pub done_noted_counted : {d₁ r : Accessed} {noted_cells after : Cells} (k : ℕ) (before : Cells) → (d₁ ≡ d) × (noted_cells ≡ noted d.event own k before) → (r ≡ d₁) × (after ≡ counted (goes_back b d₁.outcome) noted_cells) → Does a own c nodes r nodes' × (after ≡ counted (goes_back a r.outcome) (noted (heard a own c nodes) own k before))
+  pub done_noted_counted : {d₁ r : Accessed} {noted_cells after : Cells} (k : ℕ) (before : Cells) → (d₁ ≡ d) × (noted_cells ≡ noted d.event own k before) → (r ≡ d₁) × (after ≡ counted (goes_back b d₁.outcome) noted_cells) → record { does : Does a own c nodes r nodes'; ops_after : after ≡ counted (goes_back a r.outcome) (noted (heard a own c nodes) own k before) }
   done_noted_counted {noted_cells = noted_cells} k before (same, entered) (again, count) =
       done_and_counted k before (again ∙ same) entered (count ∙ ap (λ (x : Accessed). counted (goes_back b x.outcome) noted_cells) same)
 
   -- an access that never goes back counts nothing
-  pub done_and_noted : ((o : Outcome) → goes_back b o ≡ false) → {r : Accessed} {after : Cells} (k : ℕ) (before : Cells) → (r ≡ d) × (after ≡ noted d.event own k before) → Does a own c nodes r nodes' × (after ≡ counted (goes_back a r.outcome) (noted (heard a own c nodes) own k before))
+  pub done_and_noted : ((o : Outcome) → goes_back b o ≡ false) → {r : Accessed} {after : Cells} (k : ℕ) (before : Cells) → (r ≡ d) × (after ≡ noted d.event own k before) → record { does : Does a own c nodes r nodes'; ops_after : after ≡ counted (goes_back a r.outcome) (noted (heard a own c nodes) own k before) }
   done_and_noted onward {after = after} k before (same, entered) = done_and_counted k before same entered (counts_none (goes_back b d.outcome) after (onward d.outcome))

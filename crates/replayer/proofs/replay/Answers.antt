@@ -7,29 +7,11 @@ use Rattle.replayer.proofs.replay.Goals as goal
 
 pub returns-then-report-limits : goal.returns-then-report-limits
 returns-then-report-limits c = let p = c.args in
-    let all = small_refused p.limits p.file.now p.windows.now p.work.now p.report.now c.if-report-limits.true c.refused.ensures.0 c.refused.ensures.1 in
-    record {
-      number = all.0;
-      size = all.1.0;
-      report = all.1.1.0;
-      work = all.1.1.1.0;
-      explained = all.1.1.1.1.0;
-      bounded = all.1.1.1.1.1.0;
-      cut = all.1.1.1.1.1.1;
-    }
+    small_refused p.limits p.file.now p.windows.now p.work.now p.report.now c.if-report-limits.true c.refused.ensures.0 c.refused.ensures.1
 
 pub returns-then-r-ne0 : goal.returns-then-r-ne0
 returns-then-r-ne0 c = let p = c.args in
-    let all = read_refused p.limits p.file.now p.windows.now p.work.now p.report.now c.if-report-limits.false c.read-r.ensures.number c.if-r-ne0.true c.read-r.ensures.size c.read-r.ensures.work in
-    record {
-      number = all.0;
-      size = all.1.0;
-      report = all.1.1.0;
-      work = all.1.1.1.0;
-      explained = all.1.1.1.1.0;
-      bounded = all.1.1.1.1.1.0;
-      cut = all.1.1.1.1.1.1;
-    }
+    read_refused p.limits p.file.now p.windows.now p.work.now p.report.now c.if-report-limits.false c.read-r.ensures.number c.if-r-ne0.true c.read-r.ensures.size c.read-r.ensures.work
 
 pub turn_back-requires : goal.turn_back-requires
 turn_back-requires c = let p = c.args in
@@ -37,16 +19,7 @@ turn_back-requires c = let p = c.args in
 
 pub returns-then-bad_windows : goal.returns-then-bad_windows
 returns-then-bad_windows c = let p = c.args in
-    let all = windows_refused p.limits p.file.now p.windows.now p.work.now p.report.now c.if-report-limits.false (sym c.read-r.ensures.number ∙ c.if-r-ne0.false) c.read-r.new.work c.read-r.ensures.work (sym c.bad_windows.ensures ∙ c.if-bad_windows.true) c.turn_back.ensures.reply.0 c.turn_back.ensures.reply.1 c.turn_back.ensures.cleared in
-    record {
-      number = all.0;
-      size = all.1.0;
-      report = all.1.1.0;
-      work = all.1.1.1.0;
-      explained = all.1.1.1.1.0;
-      bounded = all.1.1.1.1.1.0;
-      cut = all.1.1.1.1.1.1;
-    }
+    windows_refused p.limits p.file.now p.windows.now p.work.now p.report.now c.if-report-limits.false (sym c.read-r.ensures.number ∙ c.if-r-ne0.false) c.read-r.new.work c.read-r.ensures.work (sym c.bad_windows.ensures ∙ c.if-bad_windows.true) c.turn_back.ensures.reply.0 c.turn_back.ensures.reply.1 c.turn_back.ensures.cleared
 
 pub replay_held-length-requires : goal.replay_held-length-requires
 unfolding at
@@ -55,13 +28,4 @@ replay_held-length-requires c = let p = c.args in
 
 pub returns : goal.returns
 returns c = let p = c.args in
-    let all = accepted_replied p.limits p.file.now p.windows.now p.work.now p.report.now c.if-report-limits.false (sym c.read-r.ensures.number ∙ c.if-r-ne0.false) c.requires c.read-r.new.work c.read-r.ensures.work (sym c.bad_windows.ensures ∙ c.if-bad_windows.false) refl c.replay_held-length.ensures.told c.replay_held-length.ensures.cleared in
-    record {
-      number = all.0;
-      size = all.1.0;
-      report = all.1.1.0;
-      work = all.1.1.1.0;
-      explained = all.1.1.1.1.0;
-      bounded = all.1.1.1.1.1.0;
-      cut = all.1.1.1.1.1.1;
-    }
+    accepted_replied p.limits p.file.now p.windows.now p.work.now p.report.now c.if-report-limits.false (sym c.read-r.ensures.number ∙ c.if-r-ne0.false) c.requires c.read-r.new.work c.read-r.ensures.work (sym c.bad_windows.ensures ∙ c.if-bad_windows.false) refl c.replay_held-length.ensures.told c.replay_held-length.ensures.cleared

@@ -16,41 +16,15 @@ pub returns-then-work-end : goal.returns-then-work-end
 unfolding at
 returns-then-work-end c = let p = c.args in
     let bytes = c.type_inv.file in
-    let told =
     small_told p.limits p.file.now p.work.now p.out.now c.refused.result (small_work_room p.limits p.work.now p.out.now (omega (arith, c.if-work-end.true, c.most_stream-end.ensures))) c.refused.ensures
     (claimed c.requires p.file.now (record { byte = λ i. (bytes i).fits }))
-    in
-    record {
-      number = told.0;
-      size = told.1.0;
-      kept = told.1.1.0;
-      named = told.1.1.1.0;
-      out = told.1.1.1.1.0;
-      work = told.1.1.1.1.1.0;
-      undamaged = told.1.1.1.1.1.1.0;
-      proper = told.1.1.1.1.1.1.1.0;
-      answers = told.1.1.1.1.1.1.1.1;
-    }
 
 pub returns-then-out-most_file : goal.returns-then-out-most_file
 unfolding at
 returns-then-out-most_file c = let p = c.args in
     let bytes = c.type_inv.file in
-    let told =
     small_told p.limits p.file.now p.work.now p.out.now c.refused-then-out-most_file.result (small_out_room p.limits p.work.now p.out.now (omega (arith, c.if-out-most_file.true, c.most_file.ensures))) c.refused-then-out-most_file.ensures
     (claimed c.requires p.file.now (record { byte = λ i. (bytes i).fits }))
-    in
-    record {
-      number = told.0;
-      size = told.1.0;
-      kept = told.1.1.0;
-      named = told.1.1.1.0;
-      out = told.1.1.1.1.0;
-      work = told.1.1.1.1.1.0;
-      undamaged = told.1.1.1.1.1.1.0;
-      proper = told.1.1.1.1.1.1.1.0;
-      answers = told.1.1.1.1.1.1.1.1;
-    }
 
 pub slice_bounds-clear-end-2 : goal.slice_bounds-clear-end-2
 slice_bounds-clear-end-2 c = let s = c.save_file-r in
@@ -65,20 +39,7 @@ returns c = let p = c.args in
     let end = c.most_stream-end.ensures in
     let room : most_stream p.limits ≤ length p.work.now = omega (arith, c.if-work-end.false, end) in
     let cleared_front = cleared s.new.work end (omega (arith, room, s.auto.work)) c.clear.new.to c.clear.ensures in
-    let told =
     large_told c.requires p.file.now p.work.now p.out.now _ s.new.out s.result room (omega (arith, c.if-out-most_file.false, c.most_file.ensures))
     (cleared_front ∙ ap (λ (x : List ℕ). zeros (most_stream p.limits) ++ x) s.ensures.behind)
     s.ensures.saved
     (claimed c.requires p.file.now (record { byte = λ i. (bytes i).fits }))
-    in
-    record {
-      number = told.0;
-      size = told.1.0;
-      kept = told.1.1.0;
-      named = told.1.1.1.0;
-      out = told.1.1.1.1.0;
-      work = told.1.1.1.1.1.0;
-      undamaged = told.1.1.1.1.1.1.0;
-      proper = told.1.1.1.1.1.1.1.0;
-      answers = told.1.1.1.1.1.1.1.1;
-    }
