@@ -7,7 +7,7 @@ ghost use Rattle.block.specs.Block.{block_size};
 ghost use Rattle.windows.specs.Fields.{year, month, day, second, entry_at, weekdays, opening, closing, booked_processes};
 ghost use Rattle.windows.specs.Refused.{bad_start, bad_window, bad_entries, bad_rest, bad_block, bad_windows};
 
-use block::{Checked, check};
+use block::{BLOCK, PAYLOAD, check};
 use calendar::is_date;
 use memory::word_at;
 
@@ -20,7 +20,7 @@ const DAY_SECONDS: u32 = 86400;
 // Where zeros follow: behind the eight entries, up to the sums.
 const REST: usize = 50;
 
-const REST_END: usize = 2 + Checked::PAYLOAD;
+const REST_END: usize = 2 + PAYLOAD;
 
 // The year of the start.
 pub fn year(b: &[u8]) -> u16
@@ -162,9 +162,9 @@ fn bad_block(b: &[u8]) -> bool
     requires { length b.now ≡ block_size }
     ensures { result ≡ bad_block b.now }
 {
-    if check(b, 0).number() != 0 {
+    let Ok(_) = check(b, 0) else {
         return true;
-    }
+    };
     if bad_start(b) {
         return true;
     }
@@ -181,7 +181,7 @@ pub fn bad_windows(b: &[u8]) -> bool
     if b.len() == 0 {
         return false;
     }
-    if b.len() != Checked::BLOCK {
+    if b.len() != BLOCK {
         return true;
     }
     bad_block(b)
