@@ -16,6 +16,7 @@ ghost use Rattle.job.specs.Refusals.{first_met, outside, exact_count, bad_record
 
 use block::{BLOCK, BlockError, PAYLOAD};
 use memory::word_at;
+use std::marker::Model;
 
 // An operation's number; operations count from 1, and 0 is none.
 #[derive(Clone, Copy, PartialEq, Eq, PartialOrd, Ord)]
@@ -174,109 +175,12 @@ impl Limits {
     }
 }
 
-// The object. A stream of no kind is refused; here it is read as a queue's.
-#[tactic(auto, unfolding(crate::specs::Kind::kind_found, crate::specs::Stream::kind, crate::specs::Job::job_of, basics::specs::Maps::at))]
-pub fn object_of(s: &[u8]) -> Kind
-    requires { 6 ≤ length s.now }
-    ensures { result ≡ (job_of s.now).object }
-{
-    Kind::try_from(s[0]).unwrap_or(Kind::Queue)
-}
-
-// The number of processes.
-#[tactic(auto, unfolding(crate::specs::Stream::processes, basics::specs::Maps::at))]
-fn processes(s: &[u8]) -> u8
-    requires { 6 ≤ length s.now }
-    ensures { result ≡ processes s.now }
-{
-    s[1]
-}
-
-// The number of operations.
-#[tactic(auto, unfolding(crate::specs::Stream::operations))]
-pub fn operations(s: &[u8]) -> u16
-    requires { 6 ≤ length s.now }
-    ensures { result ≡ operations s.now }
-{
-    word_at(s, 2)
-}
-
-// The length of the schedule.
-#[tactic(auto, unfolding(crate::specs::Stream::schedule_length))]
-pub fn schedule_length(s: &[u8]) -> u16
-    requires { 6 ≤ length s.now }
-    ensures { result ≡ schedule_length s.now }
-{
-    word_at(s, 4)
-}
-
 // What a stream's header says of its job: read once, and passed on.
 #[derive(Clone, Copy)]
 pub struct Heading {
     pub object: Kind,
     pub count: u16,
     pub steps: u16,
-}
-
-pub fn heading_of(s: &[u8]) -> Heading
-    requires { 6 ≤ length s.now }
-    ensures { result ≡ heading_of (job_of s.now) }
-{
-    let object = object_of(s);
-    Heading {
-        object,
-        count: operations(s),
-        steps: schedule_length(s),
-    }
-}
-
-// Where the record of an operation stands.
-#[tactic(auto, unfolding(crate::specs::Stream::record_at))]
-fn record_at(o: Operation) -> usize
-    ensures { result ≡ record_at o.0 }
-{
-    2 + 4 * usize::from(o.0)
-}
-
-// The process that does an operation.
-pub fn owner(s: &[u8], o: Operation) -> Process
-    requires { HasRecord s.now o.0 }
-    ensures { result.0 ≡ (job_of s.now).owner o.0 }
-{
-    let place = record_at(o);
-    Process(s[place])
-}
-
-// What an operation does, where its record says so: "action (1 put, 2 take)".
-#[tactic(auto, unfolding(crate::specs::Stream::action, crate::specs::Stream::action_of, crate::specs::Stream::record_at, basics::specs::Maps::at, basics::specs::Choice::pick, basics::specs::Choice::same, basics::specs::Choice::less))]
-fn its_action(s: &[u8], o: Operation) -> Option<Action>
-    requires { HasRecord s.now o.0 }
-    ensures { result ≡ action_of (action s.now o.0) }
-{
-    let place = record_at(o);
-    match s[place + 1] {
-        1 => Some(Action::Put),
-        2 => Some(Action::Take),
-        _ => None,
-    }
-}
-
-// Is an operation a put?
-#[tactic(auto, using(crate::proofs::Recorded::put_said), unfolding(crate::specs::Stream::action_of, basics::specs::Choice::pick, basics::specs::Choice::same, basics::specs::Choice::less))]
-pub fn is_put(s: &[u8], o: Operation) -> bool
-    requires { HasRecord s.now o.0 }
-    ensures { result ≡ (job_of s.now).is_put o.0 }
-{
-    its_action(s, o) == Some(Action::Put)
-}
-
-// The value field of an operation.
-pub fn value(s: &[u8], o: Operation) -> u16
-    requires { HasRecord s.now o.0 }
-    ensures { result ≡ (job_of s.now).field o.0 }
-{
-    let place = record_at(o);
-    word_at(s, place + 2)
 }
 
 // Where the schedule of so many operations stands: the entry of step k is k bytes further.
@@ -316,32 +220,12 @@ pub fn is_drop(slot: Slot) -> bool
     matches!(slot, Slot::Drops(_))
 }
 
-// What the schedule names for a step, in a stream of so many operations.
-#[tactic(auto, unfolding(crate::specs::Job::job_of, crate::specs::Stream::scheduled, basics::specs::Maps::at))]
-pub fn scheduled(s: &[u8], count: u16, k: Step) -> Slot
-    requires { (count ≡ operations s.now) × (5 + 4 * count + k.0 < length s.now) }
-    ensures { result ≡ (job_of s.now).slot k.0 }
+// Where the record of an operation stands.
+#[tactic(auto, unfolding(crate::specs::Stream::record_at))]
+fn record_at(o: Operation) -> usize
+    ensures { result ≡ record_at o.0 }
 {
-    let place = schedule_at(count);
-    slot_of(s[place + usize::from(k.0)])
-}
-
-// The length of the stream itself, without padding.
-#[tactic(auto, unfolding(crate::specs::Stream::stream_length))]
-pub fn stream_length(s: &[u8]) -> usize
-    requires { 6 ≤ length s.now }
-    ensures { result ≡ stream_length s.now }
-{
-    6 + 4 * usize::from(operations(s)) + usize::from(schedule_length(s))
-}
-
-// The exact number of blocks.
-#[tactic(auto, unfolding(crate::specs::Refusals::exact_count, block::specs::Block::payload_size))]
-pub fn exact_count(s: &[u8]) -> usize
-    requires { 6 ≤ length s.now }
-    ensures { result ≡ exact_count s.now }
-{
-    stream_length(s).div_ceil(PAYLOAD)
+    2 + 4 * usize::from(o.0)
 }
 
 #[tactic(auto, unfolding(crate::specs::Refusals::outside, basics::specs::Choice::pick, basics::specs::Choice::same, basics::specs::Choice::less))]
@@ -349,55 +233,6 @@ fn outside(low: u16, high: u16, n: u16) -> bool
     ensures { result ≡ outside low high n }
 {
     n < low || high < n
-}
-
-// The numbers 5 to 8, where the header meets one.
-#[tactic(auto, unfolding(crate::specs::Refusals::first_met, crate::specs::Refusals::header_conditions, crate::specs::Refusals::bad_kind, crate::specs::Refusals::bad_processes, crate::specs::Refusals::bad_operations, crate::specs::Refusals::bad_schedule_length, crate::specs::Kind::is_missing, crate::specs::Stream::kind, basics::specs::Maps::at, basics::specs::Choice::pick, basics::specs::Choice::same, basics::specs::Choice::less))]
-pub fn header(limits: Limits, s: &[u8]) -> Result<(), Refusal>
-    requires { 6 ≤ length s.now }
-    ensures { answer_number result ≡ first_met (header_conditions limits s.now) }
-{
-    Kind::try_from(s[0])?;
-    if outside(1, limits.processes, u16::from(processes(s))) {
-        return Err(Refusal::BadProcesses);
-    }
-    if outside(1, limits.operations, operations(s)) {
-        return Err(Refusal::BadOperations);
-    }
-    if limits.steps < schedule_length(s) {
-        return Err(Refusal::BadSteps);
-    }
-    Ok(())
-}
-
-// Is the record of an operation out of range?
-#[tactic(auto, using(crate::proofs::Recorded::owner_said, crate::proofs::Recorded::field_said), unfolding(crate::specs::Refusals::bad_record, crate::specs::Refusals::outside, crate::specs::Stream::action_of, crate::specs::Stream::record_at, basics::specs::Choice::pick, basics::specs::Choice::same, basics::specs::Choice::less))]
-fn bad_record(s: &[u8], o: Operation) -> bool
-    requires { (1 ≤ o.0) × HasRecord s.now o.0 }
-    ensures { result ≡ bad_record s.now o.0 }
-{
-    if owner(s, o).0 >= processes(s) {
-        return true;
-    }
-    match its_action(s, o) {
-        Some(Action::Put) => false,
-        Some(Action::Take) => value(s, o) != 0,
-        None => true,
-    }
-}
-
-// Is a record out of range?
-#[tactic(auto, using(crate::proofs::Tests::header_there), unfolding(crate::specs::Stream::stream_length, crate::specs::Stream::record_at))]
-fn bad_records(s: &[u8]) -> bool
-    requires { stream_length s.now ≤ length s.now }
-    ensures { result ≡ bad_records s.now }
-{
-    for before in 0..operations(s) {
-        if bad_record(s, Operation(before + 1)) {
-            return true;
-        }
-    }
-    false
 }
 
 // Is an entry of the schedule out of range?
@@ -408,42 +243,226 @@ fn bad_entry(entry: u8, processes: u8) -> bool
     process_of(slot_of(entry)).0 >= processes
 }
 
-// Is an entry of the schedule out of range? All are looked at, also behind one that is: compiled code then looks at many at once.
-#[tactic(auto, using(crate::proofs::Tests::header_there), unfolding(crate::specs::Refusals::bad_schedule, crate::specs::Stream::stream_length))]
-fn bad_schedule(s: &[u8]) -> bool
-    requires { stream_length s.now ≤ length s.now }
-    ensures { result ≡ bad_schedule s.now }
-{
-    let start = schedule_at(operations(s)) + 1;
-    let end = start + usize::from(schedule_length(s));
-    let processes = processes(s);
-    let mut bad = false;
-    for entry in &s[start..end] {
-        bad |= bad_entry(*entry, processes);
-    }
-    bad
+// The stream of a job, which is at least as long as its header. A clause sees its bytes.
+#[derive(Drop)]
+pub struct Stream<'a> {
+    bytes: &'a [u8],
 }
 
-// The numbers 10 and 11, where the records or the schedule meet one.
-#[tactic(auto, unfolding(crate::specs::Refusals::first_met, crate::specs::Refusals::list_conditions, basics::specs::Choice::pick, basics::specs::Choice::same, basics::specs::Choice::less))]
-pub fn lists(s: &[u8]) -> Result<(), Refusal>
-    requires { stream_length s.now ≤ length s.now }
-    ensures { answer_number result ≡ first_met (list_conditions s.now) }
-{
-    if bad_records(s) {
-        return Err(Refusal::BadRecord);
-    }
-    if bad_schedule(s) {
-        return Err(Refusal::BadEntry);
-    }
-    Ok(())
+impl<'a> Model for Stream<'a> {
+    ghost use Rattle.std.specs.Prelude.{List, ℕ, ◌≤◌, length};
+
+    ghost Value = { List ℕ };
+
+    ghost view = { λ s. s.bytes.now };
+
+    ghost invariant = { λ s. 6 ≤ length s.bytes.now };
 }
 
-// Is a byte behind the stream not zero?
-#[tactic(auto, using(crate::proofs::Tests::header_there))]
-pub fn bad_padding(s: &[u8]) -> bool
-    requires { stream_length s.now ≤ length s.now }
-    ensures { result ≡ bad_padding s.now }
-{
-    s[stream_length(s)..].iter().any(|b| *b != 0)
+impl<'a> Stream<'a> {
+    // The stream in some bytes.
+    pub fn over(bytes: &'a [u8]) -> Stream<'a>
+        requires { 6 ≤ length bytes.now }
+        ensures { result ≡ bytes.now }
+    {
+        Stream { bytes }
+    }
+
+    // The object. A stream of no kind is refused; here it is read as a queue's.
+    #[tactic(auto, unfolding(crate::specs::Kind::kind_found, crate::specs::Stream::kind, crate::specs::Job::job_of, basics::specs::Maps::at))]
+    pub fn object(&self) -> Kind
+        ensures { result ≡ (job_of self.now).object }
+    {
+        Kind::try_from(self.bytes[0]).unwrap_or(Kind::Queue)
+    }
+
+    // The number of processes.
+    #[tactic(auto, unfolding(crate::specs::Stream::processes, basics::specs::Maps::at))]
+    fn processes(&self) -> u8
+        ensures { result ≡ processes self.now }
+    {
+        self.bytes[1]
+    }
+
+    // The number of operations.
+    #[tactic(auto, unfolding(crate::specs::Stream::operations))]
+    pub fn operations(&self) -> u16
+        ensures { result ≡ operations self.now }
+    {
+        word_at(self.bytes, 2)
+    }
+
+    // The length of the schedule.
+    #[tactic(auto, unfolding(crate::specs::Stream::schedule_length))]
+    pub fn schedule_length(&self) -> u16
+        ensures { result ≡ schedule_length self.now }
+    {
+        word_at(self.bytes, 4)
+    }
+
+    pub fn heading(&self) -> Heading
+        ensures { result ≡ heading_of (job_of self.now) }
+    {
+        let object = self.object();
+        Heading {
+            object,
+            count: self.operations(),
+            steps: self.schedule_length(),
+        }
+    }
+
+    // The process that does an operation.
+    pub fn owner(&self, o: Operation) -> Process
+        requires { HasRecord self.now o.0 }
+        ensures { result.0 ≡ (job_of self.now).owner o.0 }
+    {
+        let place = record_at(o);
+        Process(self.bytes[place])
+    }
+
+    // What an operation does, where its record says so: "action (1 put, 2 take)".
+    #[tactic(auto, unfolding(crate::specs::Stream::action, crate::specs::Stream::action_of, crate::specs::Stream::record_at, basics::specs::Maps::at, basics::specs::Choice::pick, basics::specs::Choice::same, basics::specs::Choice::less))]
+    fn action(&self, o: Operation) -> Option<Action>
+        requires { HasRecord self.now o.0 }
+        ensures { result ≡ action_of (action self.now o.0) }
+    {
+        let place = record_at(o);
+        match self.bytes[place + 1] {
+            1 => Some(Action::Put),
+            2 => Some(Action::Take),
+            _ => None,
+        }
+    }
+
+    // Is an operation a put?
+    #[tactic(auto, using(crate::proofs::Recorded::put_said), unfolding(crate::specs::Stream::action_of, basics::specs::Choice::pick, basics::specs::Choice::same, basics::specs::Choice::less))]
+    pub fn is_put(&self, o: Operation) -> bool
+        requires { HasRecord self.now o.0 }
+        ensures { result ≡ (job_of self.now).is_put o.0 }
+    {
+        self.action(o) == Some(Action::Put)
+    }
+
+    // The value field of an operation.
+    pub fn value(&self, o: Operation) -> u16
+        requires { HasRecord self.now o.0 }
+        ensures { result ≡ (job_of self.now).field o.0 }
+    {
+        let place = record_at(o);
+        word_at(self.bytes, place + 2)
+    }
+
+    // What the schedule names for a step, in a stream of so many operations.
+    #[tactic(auto, unfolding(crate::specs::Job::job_of, crate::specs::Stream::scheduled, basics::specs::Maps::at))]
+    pub fn scheduled(&self, count: u16, k: Step) -> Slot
+        requires { (count ≡ operations self.now) × (5 + 4 * count + k.0 < length self.now) }
+        ensures { result ≡ (job_of self.now).slot k.0 }
+    {
+        let place = schedule_at(count);
+        slot_of(self.bytes[place + usize::from(k.0)])
+    }
+
+    // The length of the stream itself, without padding.
+    #[tactic(auto, unfolding(crate::specs::Stream::stream_length))]
+    pub fn stream_length(&self) -> usize
+        ensures { result ≡ stream_length self.now }
+    {
+        6 + 4 * usize::from(self.operations()) + usize::from(self.schedule_length())
+    }
+
+    // The exact number of blocks.
+    #[tactic(auto, unfolding(crate::specs::Refusals::exact_count, block::specs::Block::payload_size))]
+    pub fn exact_count(&self) -> usize
+        ensures { result ≡ exact_count self.now }
+    {
+        self.stream_length().div_ceil(PAYLOAD)
+    }
+
+    // The numbers 5 to 8, where the header meets one.
+    #[tactic(auto, unfolding(crate::specs::Refusals::first_met, crate::specs::Refusals::header_conditions, crate::specs::Refusals::bad_kind, crate::specs::Refusals::bad_processes, crate::specs::Refusals::bad_operations, crate::specs::Refusals::bad_schedule_length, crate::specs::Kind::is_missing, crate::specs::Stream::kind, basics::specs::Maps::at, basics::specs::Choice::pick, basics::specs::Choice::same, basics::specs::Choice::less))]
+    pub fn header(&self, limits: Limits) -> Result<(), Refusal>
+        ensures { answer_number result ≡ first_met (header_conditions limits self.now) }
+    {
+        Kind::try_from(self.bytes[0])?;
+        if outside(1, limits.processes, u16::from(self.processes())) {
+            return Err(Refusal::BadProcesses);
+        }
+        if outside(1, limits.operations, self.operations()) {
+            return Err(Refusal::BadOperations);
+        }
+        if limits.steps < self.schedule_length() {
+            return Err(Refusal::BadSteps);
+        }
+        Ok(())
+    }
+
+    // Is the record of an operation out of range?
+    #[tactic(auto, using(crate::proofs::Recorded::owner_said, crate::proofs::Recorded::field_said), unfolding(crate::specs::Refusals::bad_record, crate::specs::Refusals::outside, crate::specs::Stream::action_of, crate::specs::Stream::record_at, basics::specs::Choice::pick, basics::specs::Choice::same, basics::specs::Choice::less))]
+    fn bad_record(&self, o: Operation) -> bool
+        requires { (1 ≤ o.0) × HasRecord self.now o.0 }
+        ensures { result ≡ bad_record self.now o.0 }
+    {
+        if self.owner(o).0 >= self.processes() {
+            return true;
+        }
+        match self.action(o) {
+            Some(Action::Put) => false,
+            Some(Action::Take) => self.value(o) != 0,
+            None => true,
+        }
+    }
+
+    // Is a record out of range?
+    #[tactic(auto, using(crate::proofs::Tests::header_there), unfolding(crate::specs::Stream::stream_length, crate::specs::Stream::record_at))]
+    fn bad_records(&self) -> bool
+        requires { stream_length self.now ≤ length self.now }
+        ensures { result ≡ bad_records self.now }
+    {
+        for before in 0..self.operations() {
+            if self.bad_record(Operation(before + 1)) {
+                return true;
+            }
+        }
+        false
+    }
+
+    // Is an entry of the schedule out of range? All are looked at, also behind one that is: compiled code then looks at many at once.
+    #[tactic(auto, using(crate::proofs::Tests::header_there), unfolding(crate::specs::Refusals::bad_schedule, crate::specs::Stream::stream_length))]
+    fn bad_schedule(&self) -> bool
+        requires { stream_length self.now ≤ length self.now }
+        ensures { result ≡ bad_schedule self.now }
+    {
+        let start = schedule_at(self.operations()) + 1;
+        let end = start + usize::from(self.schedule_length());
+        let processes = self.processes();
+        let mut bad = false;
+        for entry in &self.bytes[start..end] {
+            bad |= bad_entry(*entry, processes);
+        }
+        bad
+    }
+
+    // The numbers 10 and 11, where the records or the schedule meet one.
+    #[tactic(auto, unfolding(crate::specs::Refusals::first_met, crate::specs::Refusals::list_conditions, basics::specs::Choice::pick, basics::specs::Choice::same, basics::specs::Choice::less))]
+    pub fn lists(&self) -> Result<(), Refusal>
+        requires { stream_length self.now ≤ length self.now }
+        ensures { answer_number result ≡ first_met (list_conditions self.now) }
+    {
+        if self.bad_records() {
+            return Err(Refusal::BadRecord);
+        }
+        if self.bad_schedule() {
+            return Err(Refusal::BadEntry);
+        }
+        Ok(())
+    }
+
+    // Is a byte behind the stream not zero?
+    #[tactic(auto, using(crate::proofs::Tests::header_there))]
+    pub fn bad_padding(&self) -> bool
+        requires { stream_length self.now ≤ length self.now }
+        ensures { result ≡ bad_padding self.now }
+    {
+        self.bytes[self.stream_length()..].iter().any(|b| *b != 0)
+    }
 }
