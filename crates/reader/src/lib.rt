@@ -13,7 +13,7 @@ ghost use Rattle.job.specs.Calls.{read_number, read_length, read_work};
 ghost use Rattle.reader.specs.Loaded.{joined_refusal, Loaded};
 
 use block::{BLOCK, BlockError, PAYLOAD, give};
-use job::{Limits, Refusal, bad_padding, exact_count, header, length_of, lists, stream_length};
+use job::{Limits, Refusal, Stream, length_of};
 use memory::clear;
 
 // The block at a position: its payload goes into the work memory behind the payloads before it, or nothing does.
@@ -54,20 +54,20 @@ fn bad_length(limits: Limits, file: &[u8]) -> bool
 
 // The length of the stream that so many joined blocks begin with, or the first of the numbers 5 to 12 that they meet.
 #[tactic(auto, unfolding(block::specs::Block::payload_size))]
-fn measure(limits: Limits, s: &[u8], count: usize) -> Result<usize, Refusal>
-    requires { (1 ≤ count) × (length s.now ≡ payload_size * count) }
-    ensures number { answer_number result ≡ joined_refusal limits s.now count }
-    ensures size { IfOk result (λ n. n ≡ stream_length s.now) }
+fn measure(limits: Limits, stream: &Stream, count: usize) -> Result<usize, Refusal>
+    requires { length stream.now ≡ payload_size * count }
+    ensures number { answer_number result ≡ joined_refusal limits stream.now count }
+    ensures size { IfOk result (λ n. n ≡ stream_length stream.now) }
 {
-    header(limits, s)?;
-    if exact_count(s) != count {
+    stream.header(limits)?;
+    if stream.exact_count() != count {
         return Err(Refusal::BadCount);
     }
-    lists(s)?;
-    if bad_padding(s) {
+    stream.lists()?;
+    if stream.bad_padding() {
         return Err(Refusal::BadPadding);
     }
-    Ok(stream_length(s))
+    Ok(stream.stream_length())
 }
 
 // The file's stream, with its padding, at the front of the work memory, and the stream's length.
@@ -80,7 +80,7 @@ fn load(limits: Limits, file: &[u8], work: &mut [u8]) -> Result<usize, Refusal>
     }
     let count = file.len() / BLOCK;
     join(file, count, work)?;
-    measure(limits, &work[..PAYLOAD * count], count)
+    measure(limits, &Stream::over(&work[..PAYLOAD * count]), count)
 }
 
 // A read of a job file: document 01's number and length. Accepted, the first bytes of the work memory hold the stream and zeros;

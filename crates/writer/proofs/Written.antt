@@ -22,7 +22,6 @@ use Rattle.job.specs.File.{file_of}
 use Rattle.job.specs.Calls.{write_number, write_length, write_out}
 use Rattle.job.proofs.Accepted.{written_good}
 use Rattle.job.proofs.Padded.{fine_small, length_file_of}
-use Rattle.job.proofs.Tests.{header_there}
 
 -- what a write gives and leaves that is refused
 pub record Refused_write (l : Limits) (s out : List ℕ) (r : Result ℕ Refusal) : Type 0 where
@@ -42,9 +41,6 @@ module _ (l : Limits) (s out : List ℕ) where
   module _ (done : write_number l s out ≡ 0) where
     pub done_size : length s ≡ stream_length s
     done_size = (written_good l s out done).1.size
-
-    pub done_header : 6 ≤ length s
-    done_header = header_there s (omega (arith, done_size))
 
     pub done_few : Sound l → exact_count s ≤ l.blocks
     done_few sound = fine_small sound s (written_good l s out done).1.fine

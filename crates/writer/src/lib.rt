@@ -1,7 +1,7 @@
 // Writing a job file: what the table says of a stream, and then its blocks into the lent output.
 #![tactic(auto)]
 
-ghost use Rattle.std.specs.Prelude.{◌≡◌, List, ◌++◌, ℕ, ◌+◌, ◌*◌, ◌≤◌, ◌<◌, length, take, drop};
+ghost use Rattle.std.specs.Prelude.{◌≡◌, List, ◌++◌, ℕ, ◌+◌, ◌*◌, ◌≤◌, ◌<◌, length, take, drop, IfOk};
 ghost use Rattle.memory.specs.Over.{over};
 ghost use Rattle.block.specs.Block.{block_size, payload_size, block};
 ghost use Rattle.block.specs.Checked.{filled};
@@ -13,12 +13,13 @@ ghost use Rattle.job.specs.File.{file_of};
 ghost use Rattle.job.specs.Calls.{write_number, write_length, write_out};
 
 use block::{BLOCK, PAYLOAD, make};
-use job::{Limits, Refusal, exact_count, header, lists, stream_length};
+use job::{Limits, Refusal, Stream};
 
-// What turns back a write to an output of so many bytes: nothing is written before it is known.
-fn refusal(limits: Limits, s: &[u8], room: usize) -> Result<(), Refusal>
+// How many blocks a stream has, or what turns back its write to an output of so many bytes: nothing is written before it is known.
+fn block_count(limits: Limits, s: &[u8], room: usize) -> Result<usize, Refusal>
     requires { Sound limits }
-    ensures { (out : List ℕ) → length out ≡ room → answer_number result ≡ write_number limits s.now out }
+    ensures number { (out : List ℕ) → length out ≡ room → answer_number result ≡ write_number limits s.now out }
+    ensures count { IfOk result (λ n. n ≡ exact_count s.now) }
 {
     let most = limits.most_file();
     if room < most {
@@ -27,11 +28,13 @@ fn refusal(limits: Limits, s: &[u8], room: usize) -> Result<(), Refusal>
     if s.len() < 6 {
         return Err(Refusal::BadLength);
     }
-    header(limits, s)?;
-    if s.len() != stream_length(s) {
+    let stream = Stream::over(s);
+    stream.header(limits)?;
+    if s.len() != stream.stream_length() {
         return Err(Refusal::BadCount);
     }
-    lists(s)
+    stream.lists()?;
+    Ok(stream.exact_count())
 }
 
 // The block at a position, in the output behind the blocks before it.
@@ -64,8 +67,7 @@ pub fn write(limits: Limits, stream: &[u8], out: &mut [u8]) -> Result<usize, Ref
     ensures size { answer_length result ≡ write_length limits stream.now out.old }
     ensures out { out.new ≡ write_out limits stream.now out.old }
 {
-    refusal(limits, stream, out.len())?;
-    let count = exact_count(stream);
+    let count = block_count(limits, stream, out.len())?;
     put_blocks(stream, count, out);
     Ok(BLOCK * count)
 }

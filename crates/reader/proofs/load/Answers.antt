@@ -1,9 +1,11 @@
 -- `reader::load` meets its contract: the file's length, its blocks, and then its stream decide. Assumes nothing.
-use Rattle.std.proofs.Common.{refl, sym, ◌∙◌, arith, length-take-le}
+use Rattle.std.proofs.Common.{◌≡◌, ◌*◌, refl, sym, ap, subst, ◌∙◌, arith, length, length-take-le, IfOk}
 use Rattle.block.specs.Block.{block_size, payload_size}
+use Rattle.job.specs.Stream.{stream_length}
 use Rattle.job.specs.File.{block_count}
 use Rattle.job.proofs.Answered.{refusal_counts}
 use Rattle.job.proofs.Accepted.{length_good, length_decides, blocks_decide}
+use Rattle.reader.specs.Loaded.{joined_refusal}
 use Rattle.reader.proofs.Loading.{refused_loaded, refused_on, blocks_have_room, behind_blocks, joined_loaded}
 use Rattle.reader.proofs.load.Goals as goal
 
@@ -20,24 +22,35 @@ returns-in_err-join c = let good = sym c.bad_length.ensures ∙ c.if-bad_length.
     let e = c.in_err-join.ensures in
     refused_on _ _ c.from_residual.ensures.1 (e.number ∙ blocks_decide _ _ good (λ z. refusal_counts _ (e.number ∙ z))) (behind_blocks _ _ _ _ good e.behind)
 
-pub slice_bounds-measure-end : goal.slice_bounds-measure-end
+pub slice_bounds-over-end : goal.slice_bounds-over-end
 unfolding block_count block_size payload_size
-slice_bounds-measure-end c = let room = blocks_have_room c.args.file.now c.args.work.now c.requires.0 (sym c.bad_length.ensures ∙ c.if-bad_length.false) c.requires.1 in
+slice_bounds-over-end c = let room = blocks_have_room c.args.file.now c.args.work.now c.requires.0 (sym c.bad_length.ensures ∙ c.if-bad_length.false) c.requires.1 in
     omega (arith, room.2, c.join.auto.work)
 
-pub slice_bounds-measure-end-2 : goal.slice_bounds-measure-end-2
+pub slice_bounds-over-end-2 : goal.slice_bounds-over-end-2
 unfolding block_count block_size payload_size
-slice_bounds-measure-end-2 c = let room = blocks_have_room c.args.file.now c.args.work.now c.requires.0 (sym c.bad_length.ensures ∙ c.if-bad_length.false) c.requires.1 in
+slice_bounds-over-end-2 c = let room = blocks_have_room c.args.file.now c.args.work.now c.requires.0 (sym c.bad_length.ensures ∙ c.if-bad_length.false) c.requires.1 in
     sym (length-take-le _ c.join.new.work (omega (arith, room.2, c.join.auto.work)))
+
+pub over-requires : goal.over-requires
+unfolding block_count block_size payload_size
+over-requires c = let good = sym c.bad_length.ensures ∙ c.if-bad_length.false in
+    let room = blocks_have_room c.args.file.now c.args.work.now c.requires.0 good c.requires.1 in
+    let size = length-take-le (payload_size * block_count c.args.file.now) c.join.new.work (omega (arith, room.2, c.join.auto.work)) in
+    let some = (length_good _ _ good).least in
+    omega (arith, size, some)
 
 pub measure-requires : goal.measure-requires
 unfolding block_count block_size payload_size
 measure-requires c = let good = sym c.bad_length.ensures ∙ c.if-bad_length.false in
     let room = blocks_have_room c.args.file.now c.args.work.now c.requires.0 good c.requires.1 in
-    ((length_good _ _ good).least, length-take-le _ c.join.new.work (omega (arith, room.2, c.join.auto.work)))
+    ap length c.over.ensures ∙ length-take-le _ c.join.new.work (omega (arith, room.2, c.join.auto.work))
 
 pub returns : goal.returns
 unfolding block_count block_size payload_size
 returns c = let good = sym c.bad_length.ensures ∙ c.if-bad_length.false in
     let e = c.in_ok-join.ensures in
-    joined_loaded _ _ _ _ _ good (sym e.number) e.joined (behind_blocks _ _ _ _ good e.behind) c.measure.ensures.number c.measure.ensures.size
+    let count = block_count c.args.file.now in
+    joined_loaded _ _ _ _ _ good (sym e.number) e.joined (behind_blocks _ _ _ _ good e.behind)
+    (c.measure.ensures.number ∙ ap (λ s. joined_refusal c.args.limits s count) c.over.ensures)
+    (subst (λ s. IfOk c.measure.result (λ n. n ≡ stream_length s)) c.over.ensures c.measure.ensures.size)

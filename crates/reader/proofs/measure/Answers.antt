@@ -14,7 +14,7 @@ returns-then-exact_count-count-clause-number c =
     past_header _ _ _ c.in_ok-header.ensures refl (count_decides _ _ c.exact_count.ensures c.if-exact_count-count.true)
 
 pub lists-requires : goal.lists-requires
-lists-requires c = count_has_room _ _ c.exact_count.ensures c.if-exact_count-count.false c.requires.1
+lists-requires c = count_has_room _ _ c.exact_count.ensures c.if-exact_count-count.false c.requires
 
 pub returns-in_err-lists-clause-number : goal.returns-in_err-lists-clause-number
 returns-in_err-lists-clause-number c =
@@ -22,7 +22,7 @@ returns-in_err-lists-clause-number c =
     ∙ past_header _ _ _ c.in_ok-header.ensures refl (past_count _ _ c.exact_count.ensures c.if-exact_count-count.false (lists_decide _ c.in_err-lists.ensures (refusal_counts _)))
 
 pub bad_padding-requires : goal.bad_padding-requires
-bad_padding-requires c = count_has_room _ _ c.exact_count.ensures c.if-exact_count-count.false c.requires.1
+bad_padding-requires c = count_has_room _ _ c.exact_count.ensures c.if-exact_count-count.false c.requires
 
 pub returns-then-bad_padding-clause-number : goal.returns-then-bad_padding-clause-number
 returns-then-bad_padding-clause-number c =
