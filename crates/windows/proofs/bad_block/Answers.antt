@@ -1,0 +1,30 @@
+-- `windows::bad_block` meets its contract: each test is a part of the condition. Assumes nothing.
+use mathlib.Core.Path.{◌∙◌}
+use Rattle.windows.proofs.Tests.{or_met, or_missed, refused_block, tests_decide}
+use Rattle.windows.specs.Refused.{bad_entries, bad_rest}
+use Rattle.windows.proofs.bad_block.Goals as goal
+use Rattle.windows.proofs.bad_block.Goals.{then-bad_start, else-bad_start}
+
+pub returns-then-number-ne0 : goal.returns-then-number-ne0
+returns-then-number-ne0 c = refused_block _ (c.number.ensures ∙ c.check.ensures) c.if-number-ne0.true
+
+pub returns-then-bad_entries : goal.returns-then-bad_entries
+returns-then-bad_entries c =
+    or_met (bad_rest c.args.b.now)
+    (elim c.if-bad_start.branch [
+      | then-bad_start w ↦ or_met (bad_entries c.args.b.now) (w.value-is ∙ c.bad_start.ensures) (w.value-is ∙ w.if-bad_start.true)
+      | else-bad_start w ↦ w.value-is ∙ w.bad_entries.ensures ∙ or_missed c.bad_start.ensures w.if-bad_start.false
+    ])
+    c.if-bad_entries.true
+    ∙ tests_decide _ (c.number.ensures ∙ c.check.ensures) c.if-number-ne0.false
+
+pub returns-else-bad_entries : goal.returns-else-bad_entries
+returns-else-bad_entries c =
+    c.bad_rest.ensures
+    ∙ or_missed
+    (elim c.if-bad_start.branch [
+      | then-bad_start w ↦ or_met (bad_entries c.args.b.now) (w.value-is ∙ c.bad_start.ensures) (w.value-is ∙ w.if-bad_start.true)
+      | else-bad_start w ↦ w.value-is ∙ w.bad_entries.ensures ∙ or_missed c.bad_start.ensures w.if-bad_start.false
+    ])
+    c.if-bad_entries.false
+    ∙ tests_decide _ (c.number.ensures ∙ c.check.ensures) c.if-number-ne0.false
