@@ -1,5 +1,6 @@
 -- Job files and the job in them, after document 01, "Job files" and "Where a job is turned back".
 pub mod Limits
+pub mod Answer
 pub mod Stream
 pub mod Slot
 pub mod Kind

@@ -2,9 +2,12 @@
 -- to 3 operations N, 1 to 256; bytes 4 to 5 schedule length S, 0 to 16,384; N records of 4 bytes, operation 1 first and so on in
 -- order: process 0 to P − 1, action (1 put, 2 take), value in mm in 2 bytes (0 for a take); S bytes, each a process".
 -- Operations and steps count from 1, processes from 0.
-use Rattle.std.specs.Prelude.{ℕ, ◌+◌, ◌*◌, ◌≤◌, ◌<◌, List, length}
+use Rattle.std.specs.Prelude.{ℕ, ◌+◌, ◌*◌, ◌≤◌, ◌<◌, List, length, Option, Some, None}
+use Rattle.basics.specs.Choice.{pick, same}
 use Rattle.basics.specs.Maps.{at}
 use Rattle.basics.specs.Words.{word}
+use Rattle.job.specs.declared.Action.{Action}
+use Rattle.job.specs.declared.Action.TheVariants.{Put, Take}
 
 -- "byte 0 kind"
 unfoldable pub kind : List ℕ → ℕ
@@ -33,6 +36,10 @@ process s o = at s (record_at o)
 -- "action (1 put, 2 take)"
 unfoldable pub action : List ℕ → ℕ → ℕ
 action s o = at s (record_at o + 1)
+
+-- "1 put, 2 take": what an operation does
+unfoldable pub action_of : ℕ → Option Action
+action_of n = pick (same n 1) (Some Put) (pick (same n 2) (Some Take) None)
 
 -- "value in mm in 2 bytes"
 unfoldable pub value : List ℕ → ℕ → ℕ

@@ -1,39 +1,43 @@
 // The stream of a job: its fields, and the conditions of document 01's table that are about a stream.
 #![tactic(auto)]
 
-ghost use Rattle.std.specs.Prelude.{◌≡◌, ◌+◌, ◌*◌, ◌≤◌, ◌<◌, ◌||◌, not, length};
+ghost use Rattle.std.specs.Prelude.{◌≡◌, ◌+◌, ◌*◌, ◌≤◌, ◌<◌, not, length};
+ghost use Rattle.std.specs.Option.{ok_or};
 ghost use Rattle.basics.specs.Choice.{less};
+ghost use Rattle.block.specs.Checked.{error_number};
+ghost use Rattle.job.specs.declared.Refusal.TheVariants.{UnknownKind};
+ghost use Rattle.job.specs.Answer.{refusal_number, answer_number, answer_length};
 ghost use Rattle.job.specs.Limits.{field, most_file, most_stream, Sound};
 ghost use Rattle.job.specs.Kind.{kind_of};
 ghost use Rattle.job.specs.Slot.{slot_of, process_of, is_drop};
 ghost use Rattle.job.specs.Job.{job_of, heading_of};
-ghost use Rattle.job.specs.Stream.{kind, processes, operations, schedule_length, stream_length, record_at, action, HasRecord};
+ghost use Rattle.job.specs.Stream.{processes, operations, schedule_length, stream_length, record_at, action, action_of, HasRecord};
 ghost use Rattle.job.specs.Refusals.{first_met, outside, exact_count, bad_record, bad_records, bad_schedule, bad_padding, header_conditions, list_conditions};
 
-use block::Checked;
+use block::{BLOCK, BlockError, PAYLOAD};
 use memory::word_at;
 
 // An operation's number; operations count from 1, and 0 is none.
-#[derive(Clone, Copy)]
+#[derive(Clone, Copy, PartialEq, Eq, PartialOrd, Ord)]
 pub struct Operation(pub u16);
 
 // A step's number; steps count from 1.
-#[derive(Clone, Copy)]
+#[derive(Clone, Copy, PartialEq, Eq, PartialOrd, Ord)]
 pub struct Step(pub u16);
 
 // A process's number; processes count from 0.
-#[derive(Clone, Copy)]
+#[derive(Clone, Copy, PartialEq, Eq, PartialOrd, Ord)]
 pub struct Process(pub u8);
 
 // What the schedule names for a step: a process that steps, or one that drops its begun operation.
-#[derive(Clone, Copy)]
+#[derive(Clone, Copy, PartialEq, Eq)]
 pub enum Slot {
     Acts(Process),
     Drops(Process),
 }
 
 // The objects of a job.
-#[derive(Clone, Copy)]
+#[derive(Clone, Copy, PartialEq, Eq)]
 pub enum Kind {
     Queue,
     Stack,
@@ -41,11 +45,75 @@ pub enum Kind {
     TwoWay,
 }
 
-// What is found under a number: the kind that has it, or that none has.
-#[derive(Clone, Copy)]
-enum Lookup {
-    Found(Kind),
-    Missing,
+// Document 01: "kind (1 queue, 2 stack)"; document 02: "it becomes kind 3".
+impl TryFrom<u8> for Kind {
+    type Error = Refusal;
+
+    ghost try_from_gives = { λ n r. r ≡ ok_or (kind_of n) UnknownKind };
+
+    #[tactic(auto, unfolding(crate::specs::Kind::kind_of, crate::specs::Kind::kinds, crate::specs::Kind::look_up, crate::specs::Kind::kind_number, basics::specs::Choice::pick, basics::specs::Choice::same, basics::specs::Choice::less))]
+    fn try_from(number: u8) -> Result<Kind, Refusal> {
+        match number {
+            1 => Ok(Kind::Queue),
+            2 => Ok(Kind::Stack),
+            3 => Ok(Kind::TwoWay),
+            _ => Err(Refusal::UnknownKind),
+        }
+    }
+}
+
+// What an operation does.
+#[derive(Clone, Copy, PartialEq, Eq)]
+enum Action {
+    Put,
+    Take,
+}
+
+// Why a call turns a job back, in the order of document 01's table, with document 02's two more: each case has its number there.
+#[derive(Clone, Copy, Debug, PartialEq, Eq)]
+pub enum Refusal {
+    ShortMemory = 1,
+    BadLength = 2,
+    SumDiffers = 3,
+    Misplaced = 4,
+    UnknownKind = 5,
+    BadProcesses = 6,
+    BadOperations = 7,
+    BadSteps = 8,
+    BadCount = 9,
+    BadRecord = 10,
+    BadEntry = 11,
+    BadPadding = 12,
+    BadWindows = 13,
+    // of a salvage only: the header or the records are not whole
+    NotWhole = 14,
+}
+
+impl Refusal {
+    // The number in the table.
+    pub fn number(self) -> u8
+        ensures { result ≡ refusal_number self }
+    {
+        self as u8
+    }
+}
+
+impl From<BlockError> for Refusal {
+    ghost from_gives = { λ e r. refusal_number r ≡ error_number e };
+
+    fn from(error: BlockError) -> Refusal {
+        match error {
+            BlockError::SumDiffers => Refusal::SumDiffers,
+            BlockError::Misplaced => Refusal::Misplaced,
+        }
+    }
+}
+
+// The length that a call gives. "A refusal gives its number and length 0".
+pub fn length_of(answer: Result<usize, Refusal>) -> usize
+    ensures { result ≡ answer_length answer }
+{
+    answer.unwrap_or(0)
 }
 
 // The limits of a profile: most processes P, operations N and steps S of a job, most blocks of its file, and the least length of the
@@ -73,9 +141,9 @@ impl Limits {
     pub const REPORT: usize = 32768;
 
     // The longest file and the longest joined stream of the field.
-    pub const FILE: usize = Limits::BLOCKS * Checked::BLOCK;
+    pub const FILE: usize = Limits::BLOCKS * BLOCK;
 
-    pub const STREAM: usize = Limits::BLOCKS * Checked::PAYLOAD;
+    pub const STREAM: usize = Limits::BLOCKS * PAYLOAD;
 
     pub fn field() -> Limits
         ensures { result ≡ field }
@@ -94,7 +162,7 @@ impl Limits {
         requires { Sound self }
         ensures { result ≡ most_file self }
     {
-        self.blocks * Checked::BLOCK
+        self.blocks * BLOCK
     }
 
     // The length of the longest joined stream: what a read and a replay need as work memory.
@@ -102,58 +170,21 @@ impl Limits {
         requires { Sound self }
         ensures { result ≡ most_stream self }
     {
-        self.blocks * Checked::PAYLOAD
+        self.blocks * PAYLOAD
     }
-}
-
-// What a call answers: a number of document 01's table, 0 where it is accepted, and a length.
-#[derive(Clone, Copy)]
-pub struct Reply {
-    pub number: u8,
-    pub length: usize,
-}
-
-impl Reply {
-    // "A refusal gives its number and length 0".
-    pub fn refused(number: u8) -> Reply
-        ensures { (result.number ≡ number) × (result.length ≡ 0) }
-    {
-        Reply { number, length: 0 }
-    }
-}
-
-// Document 01: "kind (1 queue, 2 stack)"; document 02: "it becomes kind 3".
-fn kind_of(number: u8) -> Lookup
-    ensures { result ≡ kind_of number }
-{
-    match number {
-        1 => Lookup::Found(Kind::Queue),
-        2 => Lookup::Found(Kind::Stack),
-        3 => Lookup::Found(Kind::TwoWay),
-        _ => Lookup::Missing,
-    }
-}
-
-// The kind of a stream, if its number is one's.
-fn its_kind(s: &[u8]) -> Lookup
-    requires { 6 ≤ length s.now }
-    ensures { result ≡ kind_of (kind s.now) }
-{
-    kind_of(s[0])
 }
 
 // The object. A stream of no kind is refused; here it is read as a queue's.
+#[tactic(auto, unfolding(crate::specs::Kind::kind_found, crate::specs::Stream::kind, crate::specs::Job::job_of, basics::specs::Maps::at))]
 pub fn object_of(s: &[u8]) -> Kind
     requires { 6 ≤ length s.now }
     ensures { result ≡ (job_of s.now).object }
 {
-    match its_kind(s) {
-        Lookup::Found(kind) => kind,
-        Lookup::Missing => Kind::Queue,
-    }
+    Kind::try_from(s[0]).unwrap_or(Kind::Queue)
 }
 
 // The number of processes.
+#[tactic(auto, unfolding(crate::specs::Stream::processes, basics::specs::Maps::at))]
 fn processes(s: &[u8]) -> u8
     requires { 6 ≤ length s.now }
     ensures { result ≡ processes s.now }
@@ -162,6 +193,7 @@ fn processes(s: &[u8]) -> u8
 }
 
 // The number of operations.
+#[tactic(auto, unfolding(crate::specs::Stream::operations))]
 pub fn operations(s: &[u8]) -> u16
     requires { 6 ≤ length s.now }
     ensures { result ≡ operations s.now }
@@ -170,6 +202,7 @@ pub fn operations(s: &[u8]) -> u16
 }
 
 // The length of the schedule.
+#[tactic(auto, unfolding(crate::specs::Stream::schedule_length))]
 pub fn schedule_length(s: &[u8]) -> u16
     requires { 6 ≤ length s.now }
     ensures { result ≡ schedule_length s.now }
@@ -198,10 +231,11 @@ pub fn heading_of(s: &[u8]) -> Heading
 }
 
 // Where the record of an operation stands.
+#[tactic(auto, unfolding(crate::specs::Stream::record_at))]
 fn record_at(o: Operation) -> usize
     ensures { result ≡ record_at o.0 }
 {
-    2 + 4 * (o.0 as usize)
+    2 + 4 * usize::from(o.0)
 }
 
 // The process that does an operation.
@@ -213,21 +247,27 @@ pub fn owner(s: &[u8], o: Operation) -> Process
     Process(s[place])
 }
 
-// What an operation does: 1 put, 2 take.
-fn action(s: &[u8], o: Operation) -> u8
+// What an operation does, where its record says so: "action (1 put, 2 take)".
+#[tactic(auto, unfolding(crate::specs::Stream::action, crate::specs::Stream::action_of, crate::specs::Stream::record_at, basics::specs::Maps::at, basics::specs::Choice::pick, basics::specs::Choice::same, basics::specs::Choice::less))]
+fn its_action(s: &[u8], o: Operation) -> Option<Action>
     requires { HasRecord s.now o.0 }
-    ensures { result ≡ action s.now o.0 }
+    ensures { result ≡ action_of (action s.now o.0) }
 {
     let place = record_at(o);
-    s[place + 1]
+    match s[place + 1] {
+        1 => Some(Action::Put),
+        2 => Some(Action::Take),
+        _ => None,
+    }
 }
 
 // Is an operation a put?
+#[tactic(auto, using(crate::proofs::Recorded::put_said), unfolding(crate::specs::Stream::action_of, basics::specs::Choice::pick, basics::specs::Choice::same, basics::specs::Choice::less))]
 pub fn is_put(s: &[u8], o: Operation) -> bool
     requires { HasRecord s.now o.0 }
     ensures { result ≡ (job_of s.now).is_put o.0 }
 {
-    action(s, o) == 1
+    its_action(s, o) == Some(Action::Put)
 }
 
 // The value field of an operation.
@@ -243,94 +283,95 @@ pub fn value(s: &[u8], o: Operation) -> u16
 pub fn schedule_at(count: u16) -> usize
     ensures { result ≡ 5 + 4 * count }
 {
-    5 + 4 * (count as usize)
+    5 + 4 * usize::from(count)
 }
 
 // What an entry of the schedule names. Document 02: "A schedule entry 128 + p is a numbered step in which process p drops".
+#[tactic(auto, unfolding(crate::specs::Slot::slot_of, basics::specs::Choice::pick, basics::specs::Choice::same, basics::specs::Choice::less))]
 pub fn slot_of(entry: u8) -> Slot
     ensures { result ≡ slot_of entry }
 {
     if entry < 128 {
-        return Slot::Acts(Process(entry));
+        Slot::Acts(Process(entry))
+    } else {
+        Slot::Drops(Process(entry - 128))
     }
-    Slot::Drops(Process(entry - 128))
 }
 
 // The process that is named.
+#[tactic(auto, unfolding(crate::specs::Slot::process_of))]
 pub fn process_of(slot: Slot) -> Process
     ensures { result.0 ≡ process_of slot }
 {
     match slot {
-        Slot::Acts(p) => p,
-        Slot::Drops(p) => p,
+        Slot::Acts(p) | Slot::Drops(p) => p,
     }
 }
 
 // Does it drop its operation?
+#[tactic(auto, unfolding(crate::specs::Slot::is_drop))]
 pub fn is_drop(slot: Slot) -> bool
     ensures { result ≡ is_drop slot }
 {
-    match slot {
-        Slot::Acts(_) => false,
-        Slot::Drops(_) => true,
-    }
+    matches!(slot, Slot::Drops(_))
 }
 
 // What the schedule names for a step, in a stream of so many operations.
+#[tactic(auto, unfolding(crate::specs::Job::job_of, crate::specs::Stream::scheduled, basics::specs::Maps::at))]
 pub fn scheduled(s: &[u8], count: u16, k: Step) -> Slot
     requires { (count ≡ operations s.now) × (5 + 4 * count + k.0 < length s.now) }
     ensures { result ≡ (job_of s.now).slot k.0 }
 {
     let place = schedule_at(count);
-    slot_of(s[place + k.0 as usize])
+    slot_of(s[place + usize::from(k.0)])
 }
 
 // The length of the stream itself, without padding.
-pub fn stream_length(s: &[u8]) -> u32
+#[tactic(auto, unfolding(crate::specs::Stream::stream_length))]
+pub fn stream_length(s: &[u8]) -> usize
     requires { 6 ≤ length s.now }
     ensures { result ≡ stream_length s.now }
 {
-    6 + 4 * (operations(s) as u32) + schedule_length(s) as u32
+    6 + 4 * usize::from(operations(s)) + usize::from(schedule_length(s))
 }
 
 // The exact number of blocks.
+#[tactic(auto, unfolding(crate::specs::Refusals::exact_count, block::specs::Block::payload_size))]
 pub fn exact_count(s: &[u8]) -> usize
     requires { 6 ≤ length s.now }
     ensures { result ≡ exact_count s.now }
 {
-    (stream_length(s) as usize + (Checked::PAYLOAD - 1)) / Checked::PAYLOAD
+    stream_length(s).div_ceil(PAYLOAD)
 }
 
+#[tactic(auto, unfolding(crate::specs::Refusals::outside, basics::specs::Choice::pick, basics::specs::Choice::same, basics::specs::Choice::less))]
 fn outside(low: u16, high: u16, n: u16) -> bool
     ensures { result ≡ outside low high n }
 {
-    if n < low {
-        return true;
-    }
-    high < n
+    n < low || high < n
 }
 
-// The numbers 5 to 8, and 0 where the header meets none.
-pub fn header(limits: Limits, s: &[u8]) -> u8
+// The numbers 5 to 8, where the header meets one.
+#[tactic(auto, unfolding(crate::specs::Refusals::first_met, crate::specs::Refusals::header_conditions, crate::specs::Refusals::bad_kind, crate::specs::Refusals::bad_processes, crate::specs::Refusals::bad_operations, crate::specs::Refusals::bad_schedule_length, crate::specs::Kind::is_missing, crate::specs::Stream::kind, basics::specs::Maps::at, basics::specs::Choice::pick, basics::specs::Choice::same, basics::specs::Choice::less))]
+pub fn header(limits: Limits, s: &[u8]) -> Result<(), Refusal>
     requires { 6 ≤ length s.now }
-    ensures { result ≡ first_met (header_conditions limits s.now) }
+    ensures { answer_number result ≡ first_met (header_conditions limits s.now) }
 {
-    let Lookup::Found(_) = its_kind(s) else {
-        return 5;
-    };
-    if outside(1, limits.processes, processes(s) as u16) {
-        return 6;
+    Kind::try_from(s[0])?;
+    if outside(1, limits.processes, u16::from(processes(s))) {
+        return Err(Refusal::BadProcesses);
     }
     if outside(1, limits.operations, operations(s)) {
-        return 7;
+        return Err(Refusal::BadOperations);
     }
     if limits.steps < schedule_length(s) {
-        return 8;
+        return Err(Refusal::BadSteps);
     }
-    0
+    Ok(())
 }
 
 // Is the record of an operation out of range?
+#[tactic(auto, using(crate::proofs::Recorded::owner_said, crate::proofs::Recorded::field_said), unfolding(crate::specs::Refusals::bad_record, crate::specs::Refusals::outside, crate::specs::Stream::action_of, crate::specs::Stream::record_at, basics::specs::Choice::pick, basics::specs::Choice::same, basics::specs::Choice::less))]
 fn bad_record(s: &[u8], o: Operation) -> bool
     requires { (1 ≤ o.0) × HasRecord s.now o.0 }
     ensures { result ≡ bad_record s.now o.0 }
@@ -338,85 +379,71 @@ fn bad_record(s: &[u8], o: Operation) -> bool
     if owner(s, o).0 >= processes(s) {
         return true;
     }
-    let action = action(s, o);
-    if outside(1, 2, action as u16) {
-        return true;
+    match its_action(s, o) {
+        Some(Action::Put) => false,
+        Some(Action::Take) => value(s, o) != 0,
+        None => true,
     }
-    if action == 2 {
-        return value(s, o) != 0;
-    }
-    false
 }
 
 // Is a record out of range?
+#[tactic(auto, using(crate::proofs::Tests::header_there), unfolding(crate::specs::Stream::stream_length, crate::specs::Stream::record_at))]
 fn bad_records(s: &[u8]) -> bool
     requires { stream_length s.now ≤ length s.now }
     ensures { result ≡ bad_records s.now }
 {
-    let end = operations(s) as usize + 1;
-    let mut o: usize = 1;
-    while o < end {
-        if bad_record(s, Operation(o as u16)) {
+    for before in 0..operations(s) {
+        if bad_record(s, Operation(before + 1)) {
             return true;
         }
-        o += 1;
     }
     false
 }
 
-// Was an entry found before that is out of range, or is this one?
-fn found_bad(found: bool, entry: u8, processes: u8) -> bool
-    ensures { result ≡ found || not (less (process_of (slot_of entry)) processes) }
+// Is an entry of the schedule out of range?
+#[tactic(auto, unfolding(basics::specs::Choice::pick, basics::specs::Choice::same, basics::specs::Choice::less))]
+fn bad_entry(entry: u8, processes: u8) -> bool
+    ensures { result ≡ not (less (process_of (slot_of entry)) processes) }
 {
-    let p = process_of(slot_of(entry));
-    if p.0 >= processes {
-        return true;
-    }
-    found
+    process_of(slot_of(entry)).0 >= processes
 }
 
 // Is an entry of the schedule out of range? All are looked at, also behind one that is: compiled code then looks at many at once.
+#[tactic(auto, using(crate::proofs::Tests::header_there), unfolding(crate::specs::Refusals::bad_schedule, crate::specs::Stream::stream_length))]
 fn bad_schedule(s: &[u8]) -> bool
     requires { stream_length s.now ≤ length s.now }
     ensures { result ≡ bad_schedule s.now }
 {
-    let place = schedule_at(operations(s));
-    let end = schedule_length(s) as usize + 1;
+    let start = schedule_at(operations(s)) + 1;
+    let end = start + usize::from(schedule_length(s));
     let processes = processes(s);
     let mut bad = false;
-    let mut k: usize = 1;
-    while k < end {
-        bad = found_bad(bad, s[place + k], processes);
-        k += 1;
+    for entry in &s[start..end] {
+        bad |= bad_entry(*entry, processes);
     }
     bad
 }
 
-// The numbers 10 and 11, and 0 where the records and the schedule meet none.
-pub fn lists(s: &[u8]) -> u8
+// The numbers 10 and 11, where the records or the schedule meet one.
+#[tactic(auto, unfolding(crate::specs::Refusals::first_met, crate::specs::Refusals::list_conditions, basics::specs::Choice::pick, basics::specs::Choice::same, basics::specs::Choice::less))]
+pub fn lists(s: &[u8]) -> Result<(), Refusal>
     requires { stream_length s.now ≤ length s.now }
-    ensures { result ≡ first_met (list_conditions s.now) }
+    ensures { answer_number result ≡ first_met (list_conditions s.now) }
 {
     if bad_records(s) {
-        return 10;
+        return Err(Refusal::BadRecord);
     }
     if bad_schedule(s) {
-        return 11;
+        return Err(Refusal::BadEntry);
     }
-    0
+    Ok(())
 }
 
 // Is a byte behind the stream not zero?
+#[tactic(auto, using(crate::proofs::Tests::header_there))]
 pub fn bad_padding(s: &[u8]) -> bool
     requires { stream_length s.now ≤ length s.now }
     ensures { result ≡ bad_padding s.now }
 {
-    let mut i = stream_length(s) as usize;
-    while i < s.len() {
-        if s[i] != 0 {
-            return true;
-        }
-        i += 1;
-    }
-    false
+    s[stream_length(s)..].iter().any(|b| *b != 0)
 }

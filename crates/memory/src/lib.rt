@@ -27,20 +27,12 @@ pub fn copy(to: &mut [u8], from: &[u8])
     requires { length from.now ≤ length to.old }
     ensures { to.new ≡ over from.now to.old }
 {
-    let mut i = 0;
-    while i < from.len() {
-        to[i] = from[i];
-        i += 1;
-    }
+    to[..from.len()].copy_from_slice(from);
 }
 
 // Zeros throughout.
 pub fn clear(to: &mut [u8])
     ensures { to.new ≡ replicate (length to.old) 0 }
 {
-    let mut i = 0;
-    while i < to.len() {
-        to[i] = 0;
-        i += 1;
-    }
+    to.fill(0);
 }

@@ -8,7 +8,7 @@ ghost use Rattle.windows.specs.Fields.{year, month, day, second, booked_processe
 ghost use Rattle.windows.specs.Entry.{entry_of};
 ghost use Rattle.windows.specs.Refused.{bad_start, bad_window, bad_entries, bad_rest, bad_block, bad_windows};
 
-use block::{Checked, check};
+use block::{BLOCK, PAYLOAD, check};
 use calendar::Date;
 use job::Process;
 use memory::word_at;
@@ -28,7 +28,7 @@ const ENTRY: usize = 5;
 // Where zeros follow: behind the entries, up to the sums.
 const REST: usize = 50;
 
-const REST_END: usize = 2 + Checked::PAYLOAD;
+const REST_END: usize = 2 + PAYLOAD;
 
 // The entry of a process: its weekdays, a bit each, and the minutes at which its window opens and closes.
 #[derive(Clone, Copy, PartialEq, Eq, Debug)]
@@ -39,6 +39,7 @@ pub struct Entry {
 }
 
 // The year of the start.
+#[tactic(auto, unfolding(block::specs::Block::block_size, basics::specs::Maps::at, crate::specs::Fields::year))]
 pub fn year(b: &[u8]) -> u16
     requires { block_size ≤ length b.now }
     ensures { result ≡ year b.now }
@@ -47,6 +48,7 @@ pub fn year(b: &[u8]) -> u16
 }
 
 // Its month.
+#[tactic(auto, unfolding(block::specs::Block::block_size, basics::specs::Maps::at, crate::specs::Fields::month))]
 pub fn month(b: &[u8]) -> u8
     requires { block_size ≤ length b.now }
     ensures { result ≡ month b.now }
@@ -55,6 +57,7 @@ pub fn month(b: &[u8]) -> u8
 }
 
 // Its day.
+#[tactic(auto, unfolding(block::specs::Block::block_size, basics::specs::Maps::at, crate::specs::Fields::day))]
 pub fn day(b: &[u8]) -> u8
     requires { block_size ≤ length b.now }
     ensures { result ≡ day b.now }
@@ -71,6 +74,7 @@ pub fn start_date(b: &[u8]) -> Option<Date>
 }
 
 // Its second of the day.
+#[tactic(auto, unfolding(block::specs::Block::block_size, basics::specs::Maps::at, crate::specs::Fields::second))]
 pub fn second(b: &[u8]) -> u32
     requires { block_size ≤ length b.now }
     ensures { result ≡ second b.now }
@@ -79,6 +83,7 @@ pub fn second(b: &[u8]) -> u32
 }
 
 // The entry of a process.
+#[tactic(auto, unfolding(block::specs::Block::block_size, basics::specs::Maps::at, crate::specs::Fields::weekdays, crate::specs::Fields::opening, crate::specs::Fields::closing, crate::specs::Fields::entry_at, crate::specs::Entry::entry_of))]
 pub fn entry_of(b: &[u8], p: Process) -> Entry
     requires { (block_size ≤ length b.now) × (p.0 < booked_processes) }
     ensures { result ≡ entry_of b.now p.0 }
@@ -129,9 +134,9 @@ fn bad_block(b: &[u8]) -> bool
     requires { length b.now ≡ block_size }
     ensures { result ≡ bad_block b.now }
 {
-    if check(b, 0).number() != 0 {
+    let Ok(_) = check(b, 0) else {
         return true;
-    }
+    };
     bad_start(b) || bad_entries(b) || bad_rest(b)
 }
 
@@ -139,5 +144,5 @@ fn bad_block(b: &[u8]) -> bool
 pub fn bad_windows(b: &[u8]) -> bool
     ensures { result ≡ bad_windows b.now }
 {
-    !b.is_empty() && (b.len() != Checked::BLOCK || bad_block(b))
+    !b.is_empty() && (b.len() != BLOCK || bad_block(b))
 }

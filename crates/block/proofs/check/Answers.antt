@@ -6,43 +6,31 @@ use Rattle.block.proofs.Refusal.{sum_a_differs, sum_b_differs, place_differs, go
 use Rattle.block.proofs.check.Goals as goal
 
 pub slice_bounds-of-end : goal.slice_bounds-of-end
-unfolding block_size summed_size payload_size
-slice_bounds-of-end c = sym (length-take-le summed_size c.args.b.now (omega arith))
-
-pub word_at-requires : goal.word_at-requires
 unfolding block_size
-word_at-requires c = omega arith
+slice_bounds-of-end c = sym (length-take-le 508 c.args.b.now (omega arith))
 
-pub returns-then-word_at-s : goal.returns-then-word_at-s
+pub returns-then-word_at-s-clause-number : goal.returns-then-word_at-s-clause-number
 unfolding summed_size payload_size
-returns-then-word_at-s c = let p = c.args in
+returns-then-word_at-s-clause-number c = let p = c.args in
     sum_a_differs p.position p.b.now c.of-s.ensures c.word_at.ensures c.if-word_at-s.true
 
-pub word_at-requires-2 : goal.word_at-requires-2
-unfolding block_size
-word_at-requires-2 c = omega arith
-
-pub returns-then-word_at-s-2 : goal.returns-then-word_at-s-2
+pub returns-then-word_at-s-2-clause-number : goal.returns-then-word_at-s-2-clause-number
 unfolding summed_size payload_size
-returns-then-word_at-s-2 c = let p = c.args in
+returns-then-word_at-s-2-clause-number c = let p = c.args in
     sum_b_differs p.position p.b.now c.of-s.ensures c.word_at-2.ensures c.if-word_at-s-2.true
 
-pub word_at-requires-3 : goal.word_at-requires-3
-unfolding block_size
-word_at-requires-3 c = omega arith
-
-pub returns-then-word_at-position : goal.returns-then-word_at-position
+pub returns-then-word_at-position-clause-number : goal.returns-then-word_at-position-clause-number
 unfolding summed_size payload_size
-returns-then-word_at-position c = let p = c.args in
+returns-then-word_at-position-clause-number c = let p = c.args in
     let own = c.of-s.ensures in
     place_differs p.position p.b.now
     (sym c.word_at.ensures ∙ c.if-word_at-s.false ∙ ap (λ (s : Sums). s.a) own)
     (sym c.word_at-2.ensures ∙ c.if-word_at-s-2.false ∙ ap (λ (s : Sums). s.b) own)
     (λ e. c.if-word_at-position.true (c.word_at-3.ensures ∙ e))
 
-pub returns : goal.returns
+pub returns-clause-number : goal.returns-clause-number
 unfolding summed_size payload_size
-returns c = let own = c.of-s.ensures in
+returns-clause-number c = let own = c.of-s.ensures in
     good_accepted (record {
       sum_a = sym c.word_at.ensures ∙ c.if-word_at-s.false ∙ ap (λ (s : Sums). s.a) own;
       sum_b = sym c.word_at-2.ensures ∙ c.if-word_at-s-2.false ∙ ap (λ (s : Sums). s.b) own;

@@ -1,28 +1,20 @@
 -- `block::give` meets its contract: a good block's payload is copied, and under a refusal nothing is. Assumes nothing.
-use Rattle.std.proofs.Common.{ℕ, List, sym, ap, ◌∙◌, arith}
+use Rattle.std.proofs.Common.{List, ℕ, length, refl, ap, ◌∙◌, arith}
+use Rattle.std.proofs.lemmas.Result.{err_from_is_err_and}
 use Rattle.memory.specs.Over.{over}
-use Rattle.memory.proofs.Over.{length_part}
-use Rattle.block.specs.Block.{block_size, payload_size, payload_of}
 use Rattle.block.specs.Checked.{bytes_of}
-use Rattle.block.specs.declared.Checked.{Checked}
-use Rattle.block.proofs.Given.{refused_number, refused_bytes}
-use Rattle.block.specs.Block.{block_size, payload_size, payload_of}
+use Rattle.block.proofs.Accepted.{length_payload}
 use Rattle.block.proofs.give.Goals as goal
 
-pub returns-in_default : goal.returns-in_default
-returns-in_default c = let p = c.args in
-    let r : Checked = c.check-answer.result in
-    record { number = c.check-answer.ensures; payload = sym (ap (λ (x : List ℕ). over x p.to.now) (refused_bytes r p.b.now (refused_number r c.in_default.not-Payload))) }
-
-pub slice_bounds-copy-end : goal.slice_bounds-copy-end
-unfolding block_size
-slice_bounds-copy-end c = omega arith
+pub returns-in_err-payload-clause-payload : goal.returns-in_err-payload-clause-payload
+unfolding bytes_of
+returns-in_err-payload-clause-payload c =
+    let p = err_from_is_err_and c.from_residual.result c.from_residual.ensures.1 in
+    rw p.1 refl
 
 pub copy-requires : goal.copy-requires
-unfolding block_size payload_size
-copy-requires c = omega (arith, length_part c.args.b.now 2 payload_size (omega arith))
+copy-requires c = omega (arith, ap length c.in_ok-payload.ensures.payload, length_payload c.args.b.now c.requires.0)
 
-pub returns : goal.returns
-unfolding bytes_of payload_of payload_size
-returns c = let p = c.args in
-    record { number = c.check-answer.ensures; payload = c.copy.ensures ∙ ap (λ (r : Checked). over (bytes_of r p.b.now) p.to.now) (sym c.in-Payload.is) }
+pub returns-clause-payload : goal.returns-clause-payload
+unfolding bytes_of
+returns-clause-payload c = c.copy.ensures ∙ ap (λ (p : List ℕ). over p c.args.to.now) c.in_ok-payload.ensures.payload

@@ -8,18 +8,6 @@ use lib.ListN.{length-replicate}
 use Rattle.memory.proofs.Over.{over_both, zeros_over}
 use Rattle.block.proofs.put_payload.Goals as goal
 
-pub slice_bounds-clear-count : goal.slice_bounds-clear-count
-unfolding payload_size
-slice_bounds-clear-count c = omega arith
-
-pub slice_bounds-clear-start : goal.slice_bounds-clear-start
-unfolding payload_size
-slice_bounds-clear-start c = omega arith
-
-pub slice_bounds-clear-end : goal.slice_bounds-clear-end
-unfolding payload_size
-slice_bounds-clear-end c = omega arith
-
 pub returns : goal.returns
 unfolding filled payload_size
 returns c = let p = c.args in

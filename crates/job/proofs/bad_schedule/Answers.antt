@@ -1,42 +1,31 @@
--- `job::bad_schedule` meets its contract. The loop's invariant: what was found so far and the entries that are left decide. The measure is
--- their number. Assumes nothing.
-use mathlib.Core.Path.{◌∙◌}
-use Rattle.job.specs.Stream.{stream_length}
+-- `job::bad_schedule` meets its contract: what was found so far and the entries that are left decide. Assumes nothing.
+use Rattle.std.proofs.Common.{◌+◌, ◌-◌, drop, not, ◌||◌, ap, ◌∙◌, arith, length-take-le, length-drop}
+use Rattle.basics.specs.Choice.{less}
+use Rattle.job.specs.Stream.{schedule_length, stream_length}
+use Rattle.job.specs.Slot.{slot_of, process_of}
 use Rattle.job.specs.Refusals.{bad_entry, bad_schedule}
 use Rattle.job.proofs.Conditions.{any_joins, any_joined}
-use Rattle.job.proofs.Tests.{header_there, any_from_one, entry_byte, entry_found}
-use native.Mathlib.Omega.{arith}
+use Rattle.job.proofs.Tests.{any_from_one, entry_byte}
 use Rattle.job.proofs.bad_schedule.Goals as goal
 
-pub loop-k-init : goal.loop-k-init
+pub loop-entry-init : goal.loop-entry-init
 unfolding bad_schedule
-loop-k-init c = (omega arith, omega arith, any_from_one (bad_entry _) c.schedule_length.ensures)
+loop-entry-init c = any_from_one (bad_entry _) (schedule_length c.args.s.now)
 
-pub overflow_add-place : goal.overflow_add-place
-unfolding stream_length
-overflow_add-place c = omega (arith, c.schedule_length.ensures, c.schedule_at-place.ensures, c.operations.ensures)
-
-pub bounds-s-place : goal.bounds-s-place
-unfolding stream_length
-bounds-s-place c = omega (arith, c.schedule_length.ensures, c.schedule_at-place.ensures, c.operations.ensures)
-
-pub loop-k-preserved : goal.loop-k-preserved
-loop-k-preserved c = let found = c.loop-k.bad in (
-  omega arith,
-  omega arith,
-  any_joins (bad_entry _) found c.found_bad-bad.result c.loop-k-test.true
-      (entry_found _ _ found (entry_byte _ _ c.schedule_at-place.ensures c.operations.ensures) c.processes-processes.ensures c.found_bad-bad.ensures)
-      ∙ c.loop-k.invariant.2,
-)
-
-pub operations-requires : goal.operations-requires
-operations-requires c = header_there _ c.requires
-
-pub schedule_length-requires : goal.schedule_length-requires
-schedule_length-requires c = header_there _ c.requires
-
-pub processes-processes-requires : goal.processes-processes-requires
-processes-processes-requires c = header_there _ c.requires
+pub loop-entry-preserved : goal.loop-entry-preserved
+unfolding bad_entry stream_length
+loop-entry-preserved c = let s = c.args.s.now in
+    let found = c.loop-entry.bad in
+    let start = c.schedule_at-start.result + 1 in
+    let size = length-take-le (start + c.from.result - start) (drop start s) (omega (arith, length-drop start s, c.schedule_at-start.ensures, c.operations.ensures, c.schedule_length.ensures, c.from.ensures)) in
+    let own = entry_byte s c.loop-entry.entry-index {start = start} {n = c.operations.result} {m = start + c.from.result - start} (omega arith) (omega (arith, c.schedule_at-start.ensures)) c.operations.ensures in
+    any_joins (bad_entry s) found _ (omega (arith, c.schedule_length.ensures, c.from.ensures))
+    (ap (λ b. found || b) (c.bad_entry-bad.ensures ∙ (λ i. not (less (process_of (slot_of (own i))) (c.processes-processes.ensures i)))))
+    ∙ c.loop-entry.invariant
 
 pub returns : goal.returns
-returns c = any_joined (bad_entry _) c.loop-k.bad c.loop-k-test.false ∙ c.loop-k.invariant.2
+unfolding stream_length
+returns c = let s = c.args.s.now in
+    let start = c.schedule_at-start.result + 1 in
+    let size = length-take-le (start + c.from.result - start) (drop start s) (omega (arith, length-drop start s, c.schedule_at-start.ensures, c.operations.ensures, c.schedule_length.ensures, c.from.ensures)) in
+    any_joined (bad_entry s) c.loop-entry.bad (omega (arith, c.schedule_length.ensures, c.from.ensures)) ∙ c.loop-entry.invariant

@@ -1,12 +1,13 @@
 -- `windows::bad_block` meets its contract: each test is a part of the condition. Assumes nothing.
-use mathlib.Core.Path.{◌∙◌}
-use Rattle.windows.proofs.Tests.{or_met, or_missed, refused_block, tests_decide}
+use mathlib.Core.Path.{refl, ◌∙◌}
+use Rattle.block.proofs.Given.{error_counts}
 use Rattle.windows.specs.Refused.{bad_entries, bad_rest}
+use Rattle.windows.proofs.Tests.{or_met, or_missed, refused_block, tests_decide}
 use Rattle.windows.proofs.bad_block.Goals as goal
 use Rattle.windows.proofs.bad_block.Goals.{then-bad_start, else-bad_start}
 
-pub returns-then-number-ne0 : goal.returns-then-number-ne0
-returns-then-number-ne0 c = refused_block _ (c.number.ensures ∙ c.check.ensures) c.if-number-ne0.true
+pub returns-in_default : goal.returns-in_default
+returns-in_default c = refused_block _ c.in_default.ensures.number (error_counts c.in_default.field-0)
 
 pub returns-then-bad_entries : goal.returns-then-bad_entries
 returns-then-bad_entries c =
@@ -16,7 +17,7 @@ returns-then-bad_entries c =
       | else-bad_start w ↦ w.value-is ∙ w.bad_entries.ensures ∙ or_missed c.bad_start.ensures w.if-bad_start.false
     ])
     c.if-bad_entries.true
-    ∙ tests_decide _ (c.number.ensures ∙ c.check.ensures) c.if-number-ne0.false
+    ∙ tests_decide _ c.in-Ok.ensures.number refl
 
 pub returns-else-bad_entries : goal.returns-else-bad_entries
 returns-else-bad_entries c =
@@ -27,4 +28,4 @@ returns-else-bad_entries c =
       | else-bad_start w ↦ w.value-is ∙ w.bad_entries.ensures ∙ or_missed c.bad_start.ensures w.if-bad_start.false
     ])
     c.if-bad_entries.false
-    ∙ tests_decide _ (c.number.ensures ∙ c.check.ensures) c.if-number-ne0.false
+    ∙ tests_decide _ c.in-Ok.ensures.number refl
