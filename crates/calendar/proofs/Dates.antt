@@ -37,7 +37,7 @@ date_of {year} {month} {day} e =
     record { first_month = m.0; last_month = m.1; first_day = d.0; last_day = d.1 }
 
 -- what `contains` answers of a range of numbers
-orders : (a b : ℕ) → is_le (nat_cmp a b) ≡ leb a b
+pub orders : (a b : ℕ) → is_le (nat_cmp a b) ≡ leb a b
 orders a b = grind arith
 
 pub contained : (r : RangeInclusive ℕ) (n : ℕ) {low high : ℕ} → range_inclusive_start r ≡ low → range_inclusive_end r ≡ high → range_inclusive_exhausted r ≡ false

@@ -5,6 +5,7 @@ pub mod Tests
 pub mod Sums
 pub mod Eight
 pub mod Rewritten
+pub mod Part
 pub mod Entries
 pub mod Stretch
 pub mod Turns
