@@ -53,14 +53,12 @@ fn has_weekday(days: u8, w: Weekday) -> bool
 }
 
 // "A closing before its opening counts a day later".
+#[tactic(auto, unfolding(hours::specs::Open::closes, basics::specs::Choice::pick, basics::specs::Choice::less))]
 fn closes(from: u16, to: u16) -> u16
     requires { to ≤ day_minutes }
     ensures { result ≡ closes from to }
 {
-    if to < from {
-        return to + DAY_MINUTES;
-    }
-    to
+    if to < from { to + DAY_MINUTES } else { to }
 }
 
 // The window of process p, where w is the weekday of the start.
@@ -170,6 +168,7 @@ fn shut_steps(bookings: &Bookings, second: u32, s: &mut [u8])
     let first = schedule_at(operations(s)) + 1;
     let steps = schedule_length(s) as usize;
     let mut minute = (second / 60) as u16;
+    // counted by hand: behind a loop over `chunks_mut` the prover does not know what the stream holds
     // the last step of the minute, and the last step that is done
     let mut end = (60 - second % 60) as usize;
     let mut done: usize = 0;
