@@ -1,11 +1,16 @@
 -- What a date is, test by test. Assumes nothing.
-use mathlib.Core.Path.{◌≡◌, ◌∙◌}
-use Prim.Native.Nat.{ℕ, ◌≤◌, ◌<◌}
-use mathlib.Core.Bool.{true, false, not, and-false}
+use mathlib.Core.Path.{◌≡◌}
+use Prim.Native.Nat.{ℕ, ◌≤◌}
+use mathlib.Core.Bool.{true, false, not}
 use borrow.Author.Tests.{not-true}
 use lib.Dec.{leb}
+use Rattle.std.specs.Prelude.{Some}
+use native.Mathlib.Omega.{arith}
+use Rattle.std.specs.declared.ops.RangeInclusive.{RangeInclusive}
+use Rattle.std.specs.Ordering.{nat_cmp, is_le}
+use Rattle.std.specs.Range.{range_inclusive_start, range_inclusive_end, range_inclusive_exhausted, range_inclusive_contains}
 use Rattle.basics.specs.Choice.{less}
-use Rattle.basics.proofs.Choice.{lt_less, le_less, less_le, at_most}
+use Rattle.basics.proofs.Choice.{less_le, at_most}
 use Rattle.calendar.specs.Months.{month_length}
 use Rattle.calendar.specs.Dates.{from_to, is_date}
 use Rattle.calendar.proofs.Below.{and_both}
@@ -31,20 +36,11 @@ date_of {year} {month} {day} e =
     let d = between 1 (month_length year month) day tests.1 in
     record { first_month = m.0; last_month = m.1; first_day = d.0; last_day = d.1 }
 
--- which test of the code decides
-module _ (year month day : ℕ) where
-  pub month_early : month < 1 → false ≡ is_date year month day
-  unfolding is_date from_to
-  month_early h = simp (lt_less h)
+-- what `contains` answers of a range of numbers
+pub orders : (a b : ℕ) → is_le (nat_cmp a b) ≡ leb a b
+orders a b = grind arith
 
-  pub month_late : 12 < month → false ≡ is_date year month day
-  unfolding is_date from_to
-  month_late h = simp (lt_less h, and-false)
-
-  pub day_early : day < 1 → false ≡ is_date year month day
-  unfolding is_date from_to
-  day_early h = simp (lt_less h, and-false)
-
-  pub length_decides : {n : ℕ} → 1 ≤ month → month ≤ 12 → 1 ≤ day → n ≡ month_length year month → leb day n ≡ is_date year month day
-  unfolding is_date from_to
-  length_decides {n} from to first e = at_most day n ∙ simp (le_less from, le_less to, le_less first, ← e)
+pub contained : (r : RangeInclusive ℕ) (n : ℕ) {low high : ℕ} → range_inclusive_start r ≡ low → range_inclusive_end r ≡ high → range_inclusive_exhausted r ≡ false
+    → range_inclusive_contains (λ a b. Some (nat_cmp a b)) r n ≡ from_to low high n
+unfolding from_to
+contained r n {low} {high} starts ends fresh = simp (starts, ends, fresh, orders, at_most low n, at_most n high)

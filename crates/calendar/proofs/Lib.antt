@@ -4,5 +4,6 @@ pub mod Years
 pub mod Months
 pub mod Dates
 pub mod Starts
+pub mod Century
 pub mod Weekdays
 pub mod Counted

@@ -4,25 +4,26 @@ use mathlib.Core.Logic.{◌≢◌}
 use Prim.Native.Nat.{ℕ, zero, suc, ◌+◌, ◌-◌, ◌%◌, ◌≤◌}
 use native.Mathlib.Omega.{arith}
 use Rattle.basics.specs.Choice.{same}
-use Rattle.basics.proofs.Choice.{pick_then, pick_else, pick_elim, equal_same, unequal_same, same_equal, same_unequal}
-use Rattle.calendar.specs.Weekdays.{sunday, weekday, weekday_after, weekday_before, weekday_ago}
+use Rattle.basics.proofs.Choice.{pick_elim, same_equal, same_unequal}
+use Rattle.calendar.specs.declared.Weekday.{Weekday}
+use Rattle.calendar.specs.declared.Weekday.TheVariants.{Monday, Tuesday, Wednesday, Thursday, Friday, Saturday, Sunday}
+use Rattle.calendar.specs.Named.{weekday_number}
+use Rattle.calendar.specs.Weekdays.{monday, sunday, weekday, weekday_after, weekday_before, weekday_ago}
 
--- after a Sunday comes Monday, before a Monday Sunday
-pub after_sunday : {w : ℕ} → w ≡ 6 → 0 ≡ weekday_after w
+-- the numbers go round in sevens
+pub after_is : {w n : ℕ} → w ≤ 6 → n ≡ (w + 1) % 7 → n ≡ weekday_after w
 unfolding weekday_after
-after_sunday {w} e = sym (pick_then 0 (suc w) (equal_same e))
+after_is {w} {n} h e =
+    pick_elim (λ (x : ℕ). n ≡ x) (same w sunday) 0 (suc w)
+    (λ t. let last : w ≡ 6 = same_equal t in omega arith)
+    (λ t. let other : w ≢ 6 = same_unequal t in omega arith)
 
-pub after_other : {w : ℕ} → w ≢ 6 → suc w ≡ weekday_after w
-unfolding weekday_after
-after_other {w} h = sym (pick_else 0 (suc w) (unequal_same h))
-
-pub before_monday : {w : ℕ} → w ≡ 0 → 6 ≡ weekday_before w
+pub before_is : {w n : ℕ} → w ≤ 6 → n ≡ (w + 6) % 7 → n ≡ weekday_before w
 unfolding weekday_before
-before_monday {w} e = sym (pick_then 6 (w - 1) (equal_same e))
-
-pub before_other : {w : ℕ} → w ≢ 0 → w - 1 ≡ weekday_before w
-unfolding weekday_before
-before_other {w} h = sym (pick_else 6 (w - 1) (unequal_same h))
+before_is {w} {n} h e =
+    pick_elim (λ (x : ℕ). n ≡ x) (same w monday) 6 (w - 1)
+    (λ t. let first : w ≡ 0 = same_equal t in omega arith)
+    (λ t. let other : w ≢ 0 = same_unequal t in omega arith)
 
 -- 1 January 2000 is day 0 and weekday 5
 pub weekday_is : (n : ℕ) → weekday n ≡ (n + 5) % 7
@@ -31,20 +32,14 @@ weekday_is zero = refl
 weekday_is (suc n) =
     let w : ℕ = weekday n in
     let before : w ≡ (n + 5) % 7 = weekday_is n in
-    pick_elim (λ (x : ℕ). x ≡ (suc n + 5) % 7) (same w sunday) 0 (suc w)
-    (λ e. let last : w ≡ 6 = same_equal e in omega arith)
-    (λ e. let other : w ≢ 6 = same_unequal e in omega arith)
+    sym (after_is (omega arith) (omega arith))
 
 pub weekday_bound : (n : ℕ) → weekday n ≤ 6
 weekday_bound n = omega (arith, weekday_is n)
 
 -- the day before the next day is the day
 pub before_after : {w : ℕ} → w ≤ 6 → weekday_before (weekday_after w) ≡ w
-unfolding weekday_after
-before_after {w} h =
-    pick_elim (λ (x : ℕ). weekday_before x ≡ w) (same w sunday) 0 (suc w)
-    (λ e. let last : w ≡ 6 = same_equal e in sym (before_monday refl) ∙ sym last)
-    (λ e. sym (before_other (λ z. let b : ⊥ = omega arith in b)) ∙ (let back : suc w - 1 ≡ w = omega arith in back))
+before_after {w} h = let after : (w + 1) % 7 ≡ weekday_after w = after_is h refl in sym (before_is (omega arith) (omega arith))
 
 pub weekday_yesterday : (n : ℕ) → weekday_before (weekday (suc n)) ≡ weekday n
 unfolding weekday
@@ -58,3 +53,13 @@ weekday_days_ago (suc n) d =
     ap (λ (m : ℕ). weekday_before (weekday_ago n (weekday m))) (let one_more : suc n + d ≡ n + suc d = omega arith in one_more)
     ∙ ap weekday_before (weekday_days_ago n (suc d))
     ∙ weekday_yesterday d
+
+-- a named weekday is one of seven
+pub number_bound : (day : Weekday) → weekday_number day ≤ 6
+number_bound Monday = omega arith
+number_bound Tuesday = omega arith
+number_bound Wednesday = omega arith
+number_bound Thursday = omega arith
+number_bound Friday = omega arith
+number_bound Saturday = omega arith
+number_bound Sunday = omega arith

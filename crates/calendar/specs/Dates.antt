@@ -12,6 +12,10 @@ from_to low high n = not (less n low) && not (less high n)
 unfoldable pub is_date : ℕ → ℕ → ℕ → Bool
 is_date year month day = from_to 1 12 month && from_to 1 (month_length year month) day
 
+-- the same within the years of a window block: "year (2 bytes, 2000 to 2099)"
+unfoldable pub in_century : ℕ → ℕ → ℕ → Bool
+in_century year month day = from_to 2000 2099 year && is_date year month day
+
 -- the days from 1 January 2000 to a date: of the years before its year, of the months before its month, and of the days before its day
 unfoldable pub day_number : ℕ → ℕ → ℕ → ℕ
 day_number year month day = days_of_years (year - first_year) + days_of_months year (month - 1) + (day - 1)

@@ -4,4 +4,5 @@ pub mod Months
 pub mod Dates
 pub mod Starts
 pub mod Weekdays
+pub mod Named
 pub mod Rows

@@ -6,8 +6,10 @@ use Prim.Native.Nat.{ℕ, suc, ◌+◌, ◌-◌, ◌*◌, ◌/◌, ◌%◌, ◌�
 use native.Mathlib.Omega.{arith}
 use mathlib.Core.Bool.{Bool, true, false, not, ◌&&◌, ◌||◌, and-false, true≢false}
 use mathlib.Core.List.{List}
+use Rattle.std.specs.Ordering.{nat_cmp, is_le, is_lt}
+use Rattle.calendar.proofs.Dates.{orders}
 use Rattle.basics.specs.Choice.{less}
-use Rattle.basics.proofs.Choice.{compare, lt_less, le_less}
+use Rattle.basics.proofs.Choice.{compare, lt_less, le_less, at_most}
 use Rattle.calendar.specs.Dates.{day_number}
 use Rattle.calendar.specs.Weekdays.{weekday, weekday_before, weekday_after}
 use Rattle.calendar.proofs.Weekdays.{weekday_yesterday}
@@ -44,9 +46,14 @@ pub unbooked : {booked : Bool} (from to m : ℕ) → booked ≡ false → holds 
 unfolding holds
 unbooked from to m e = ap (λ (b : Bool). b && (not (less m from) && less m to)) e
 
-pub by_closing : {booked : Bool} (from to m : ℕ) → booked ≡ true → from ≤ m → holds booked from to m ≡ less m to
+-- what `contains` answers of the minutes from an opening up to a closing
+before : (a b : ℕ) → is_lt (nat_cmp a b) ≡ less a b
+unfolding less
+before a b = grind arith
+
+pub by_range : {booked : Bool} (from to m : ℕ) → booked ≡ true → is_le (nat_cmp from m) && is_lt (nat_cmp m to) ≡ holds booked from to m
 unfolding holds
-by_closing from to m e h = ap₂ (λ (b early : Bool). b && (not early && less m to)) e (le_less h)
+by_range from to m e = simp (orders, before, at_most from m, e)
 
 pub not_yet : (booked : Bool) (from to m : ℕ) → m < from → holds booked from to m ≡ false
 unfolding holds

@@ -9,6 +9,7 @@ ghost use Rattle.job.specs.Slot.{slot_of, process_of};
 ghost use Rattle.job.specs.Job.{job_of};
 ghost use Rattle.job.specs.Ready.{Ready, Named};
 ghost use Rattle.job.specs.Stream.{schedule_length};
+ghost use Rattle.calendar.specs.Named.{weekday_number};
 ghost use Rattle.windows.specs.Fields.{day_minutes, day_seconds};
 ghost use Rattle.windows.specs.Refused.{bad_windows};
 ghost use Rattle.windows.specs.Fine.{Fine_block};
@@ -19,18 +20,17 @@ ghost use Rattle.idling.specs.Eight.{Eight};
 ghost use Rattle.idling.specs.Rewritten.{Rewritten};
 ghost use Rattle.idling.specs.Entries.{entry_kept, entries_kept, may_act, first_entry};
 
-use calendar::{weekday_after, weekday_before, weekday_of};
-use job::{Limits, operations, process_of, schedule_at, schedule_length, slot_of};
-use windows::{closing, day, month, opening, second, weekdays, year};
+use calendar::Weekday;
+use job::{Limits, Process, operations, process_of, schedule_at, schedule_length, slot_of};
+use std::array;
+use windows::{DAY_MINUTES, entry_of, second, start_date};
 
-// The minutes of a day.
-const DAY: u16 = 1440;
 // The process of an idle step: one that no job has.
 const NOBODY: u8 = Limits::PROCESSES as u8;
 
 // The window of a process, as the day of the start sees it: is it booked on the day before, on that day, on the day after, and at which minutes does it
 // open and close, from the midnight of such a day?
-#[derive(Clone, Copy)]
+#[derive(Clone, Copy, PartialEq, Eq, Debug)]
 struct Window {
     yesterday: bool,
     today: bool,
@@ -40,89 +40,63 @@ struct Window {
 }
 
 // The windows of the eight processes.
-#[derive(Clone, Copy)]
-struct Bookings {
-    windows: [Window; Limits::PROCESSES],
-}
+type Bookings = [Window; Limits::PROCESSES];
 
 // Which of the eight processes may act.
-#[derive(Clone, Copy)]
-struct Allowed {
-    processes: [bool; Limits::PROCESSES],
-}
+type Allowed = [bool; Limits::PROCESSES];
 
 // Is a weekday among those of a byte? "bit 0 Monday to bit 6 Sunday".
-fn has_weekday(days: u8, w: u8) -> bool
-    requires { w ≤ 6 }
-    ensures { result ≡ has_weekday days w }
+fn has_weekday(days: u8, w: Weekday) -> bool
+    ensures { result ≡ has_weekday days (weekday_number w) }
 {
-    (days >> w) % 2 == 1
+    (days >> u8::from(w)) % 2 == 1
 }
 
 // "A closing before its opening counts a day later".
+#[tactic(auto, unfolding(hours::specs::Open::closes, basics::specs::Choice::pick, basics::specs::Choice::less))]
 fn closes(from: u16, to: u16) -> u16
     requires { to ≤ day_minutes }
     ensures { result ≡ closes from to }
 {
-    if to < from {
-        return to + DAY;
-    }
-    to
+    if to < from { to + DAY_MINUTES } else { to }
 }
 
 // The window of process p, where w is the weekday of the start.
-fn window_of(b: &[u8], p: u8, w: u8) -> Window
-    requires { Fine_block b.now × (p < field.processes) × (w ≡ start_weekday b.now) }
-    ensures { result ≡ window_of b.now p }
+fn window_of(b: &[u8], p: Process, w: Weekday) -> Window
+    requires { Fine_block b.now × (p.0 < field.processes) × (weekday_number w ≡ start_weekday b.now) }
+    ensures { result ≡ window_of b.now p.0 }
 {
-    let days = weekdays(b, p);
-    let from = opening(b, p);
-    let to = closing(b, p);
+    let entry = entry_of(b, p);
     Window {
-        yesterday: has_weekday(days, weekday_before(w)),
-        today: has_weekday(days, w),
-        tomorrow: has_weekday(days, weekday_after(w)),
-        opens: from,
-        closes: closes(from, to),
+        yesterday: has_weekday(entry.weekdays, w.previous()),
+        today: has_weekday(entry.weekdays, w),
+        tomorrow: has_weekday(entry.weekdays, w.next()),
+        opens: entry.opening,
+        closes: closes(entry.opening, entry.closing),
     }
 }
 
-// All windows of a block.
-fn bookings_of(b: &[u8]) -> Bookings
+// The weekday of the start.
+fn weekday_of(b: &[u8]) -> Weekday
     requires { Fine_block b.now }
-    ensures { Eight no_window (window_of b.now) result.windows }
+    ensures { weekday_number result ≡ start_weekday b.now }
 {
-    let w = weekday_of(year(b), month(b), day(b));
-    let none = Window {
-        yesterday: false,
-        today: false,
-        tomorrow: false,
-        opens: 0,
-        closes: 0,
-    };
-    let mut bookings = Bookings {
-        windows: [none; Limits::PROCESSES],
-    };
-    let mut p: usize = 0;
-    while p < Limits::PROCESSES {
-        let window = window_of(b, p as u8, w);
-        bookings.windows[p] = window;
-        p += 1;
-    }
-    bookings
+    start_date(b).unwrap().weekday()
+}
+
+// All windows of a block, where w is the weekday of the start.
+fn windows_of(b: &[u8], w: Weekday) -> Bookings
+    requires { Fine_block b.now × (weekday_number w ≡ start_weekday b.now) }
+    ensures { Eight no_window (window_of b.now) result }
+{
+    array::from_fn(|p| window_of(b, Process(p as u8), w))
 }
 
 // Does a window that opens and closes at these minutes hold a minute, if it is booked?
 fn holds(booked: bool, opens: u16, closes: u16, minute: u16) -> bool
     ensures { result ≡ holds booked opens closes minute }
 {
-    if !booked {
-        return false;
-    }
-    if minute < opens {
-        return false;
-    }
-    minute < closes
+    booked && (opens..closes).contains(&minute)
 }
 
 // Is a window open at a minute, counted from the midnight before the start? That of the day before may be, that of the day, or that of the day after.
@@ -130,106 +104,78 @@ fn is_open(window: Window, minute: u16) -> bool
     requires { (window.opens ≤ day_minutes) × (window.closes ≤ day_minutes + day_minutes) × (minute < day_minutes + day_minutes) }
     ensures { result ≡ open_at window minute }
 {
-    if holds(window.yesterday, window.opens, window.closes, minute + DAY) {
-        return true;
-    }
-    if holds(window.today, window.opens, window.closes, minute) {
-        return true;
-    }
     holds(
-        window.tomorrow,
-        window.opens + DAY,
-        window.closes + DAY,
-        minute,
-    )
+        window.yesterday,
+        window.opens,
+        window.closes,
+        minute + DAY_MINUTES,
+    ) || holds(window.today, window.opens, window.closes, minute)
+        || holds(
+            window.tomorrow,
+            window.opens + DAY_MINUTES,
+            window.closes + DAY_MINUTES,
+            minute,
+        )
 }
 
 // Which processes may act in a minute.
-fn allowed_at(bookings: Bookings, minute: u16) -> Allowed
-    requires { InDays bookings.windows × (minute < day_minutes + day_minutes) }
-    ensures { Eight false (λ p. open_at (get_or bookings.windows p no_window) minute) result.processes }
+fn allowed_at(bookings: &Bookings, minute: u16) -> Allowed
+    requires { InDays bookings.now × (minute < day_minutes + day_minutes) }
+    ensures { Eight false (λ p. open_at (get_or bookings.now p no_window) minute) result }
 {
-    let mut allowed = Allowed {
-        processes: [false; Limits::PROCESSES],
-    };
-    let mut p: usize = 0;
-    while p < Limits::PROCESSES {
-        let window = bookings.windows[p];
-        let may = is_open(window, minute);
-        allowed.processes[p] = may;
-        p += 1;
+    let mut allowed = [false; Limits::PROCESSES];
+    for (p, may) in allowed.iter_mut().enumerate() {
+        *may = is_open(bookings[p], minute);
     }
     allowed
 }
 
 // May every process act?
-fn all_allowed(allowed: Allowed) -> bool
-    requires { length allowed.processes ≡ field.processes }
-    ensures { result ≡ true → (p : ℕ) → p < field.processes → get_or allowed.processes p false ≡ true }
+fn all_allowed(allowed: &Allowed) -> bool
+    ensures { result ≡ true → (p : ℕ) → p < field.processes → get_or allowed.now p false ≡ true }
 {
-    let mut p: usize = 0;
-    while p < Limits::PROCESSES {
-        let may = allowed.processes[p];
-        if !may {
-            return false;
-        }
-        p += 1;
-    }
-    true
+    allowed.iter().all(|may| *may)
 }
 
 // An entry of the schedule, or an idle one where its process may not act. A sum and no branch: which entries are shut, a processor cannot foresee.
-fn kept(allowed: Allowed, entry: u8) -> u8
-    requires { (length allowed.processes ≡ field.processes) × (process_of (slot_of entry) < field.processes) }
-    ensures { result ≡ entry_kept (λ p. get_or allowed.processes p false) entry }
+fn kept(allowed: &Allowed, entry: u8) -> u8
+    requires { process_of (slot_of entry) < field.processes }
+    ensures { result ≡ entry_kept (λ p. get_or allowed.now p false) entry }
 {
     let p = process_of(slot_of(entry));
-    let i = p.0 as usize;
-    let may = allowed.processes[i];
-    let open = may as u8;
+    let open = allowed[p.0 as usize] as u8;
     entry * open + NOBODY * (1 - open)
 }
 
-// Makes entries idle, those at the places from one up to another, whose processes may not act.
-fn shut_stretch(allowed: Allowed, s: &mut [u8], from: usize, to: usize)
-    requires processes_len { (length allowed.processes ≡ field.processes) × (from ≤ to) × (to ≤ length s.old) }
-    requires by_index { (i : ℕ) → from ≤ i → i < to → process_of (slot_of (at s.old i)) < field.processes }
-    ensures { Rewritten (λ i. entry_kept (λ p. get_or allowed.processes p false) (at s.old i)) from to s.old s.new }
+// Makes those of some entries idle whose processes may not act.
+fn shut_stretch(allowed: &Allowed, entries: &mut [u8])
+    requires { (i : ℕ) → i < length entries.old → process_of (slot_of (at entries.old i)) < field.processes }
+    ensures { Rewritten (λ i. entry_kept (λ p. get_or allowed.now p false) (at entries.old i)) 0 (length entries.old) entries.old entries.new }
 {
     if all_allowed(allowed) {
         return;
     }
-    let mut i = from;
-    while i < to {
-        s[i] = kept(allowed, s[i]);
-        i += 1;
+    for entry in entries.iter_mut() {
+        *entry = kept(allowed, *entry);
     }
-}
-
-fn least(a: usize, b: usize) -> usize
-    ensures { (result ≤ a) × (result ≤ b) × (result < b → result ≡ a) }
-{
-    if a < b {
-        return a;
-    }
-    b
 }
 
 // Makes the steps outside their process's window idle, minute by minute. Step k falls k − 1 seconds after the start.
-fn shut_steps(bookings: Bookings, second: u32, s: &mut [u8])
-    requires { InDays bookings.windows × (second < day_seconds) × Ready s.old × Named s.old }
-    ensures { Rewritten (entries_kept (may_act bookings.windows second) s.old) (first_entry s.old) (first_entry s.old + schedule_length s.old) s.old s.new }
+fn shut_steps(bookings: &Bookings, second: u32, s: &mut [u8])
+    requires { InDays bookings.now × (second < day_seconds) × Ready s.old × Named s.old }
+    ensures { Rewritten (entries_kept (may_act bookings.now second) s.old) (first_entry s.old) (first_entry s.old + schedule_length s.old) s.old s.new }
 {
     let first = schedule_at(operations(s)) + 1;
     let steps = schedule_length(s) as usize;
     let mut minute = (second / 60) as u16;
+    // counted by hand: behind a loop over `chunks_mut` the prover does not know what the stream holds
     // the last step of the minute, and the last step that is done
     let mut end = (60 - second % 60) as usize;
     let mut done: usize = 0;
     while done < steps {
-        let last = least(end, steps);
+        let last = end.min(steps);
         let allowed = allowed_at(bookings, minute);
-        shut_stretch(allowed, s, first + done, first + last);
+        shut_stretch(&allowed, &mut s[first + done..first + last]);
         done = last;
         end += 60;
         minute += 1;
@@ -242,8 +188,8 @@ pub fn shut(b: &[u8], s: &mut [u8])
     ensures job { job_of s.new ≡ windowed b.now (job_of s.old) }
     ensures ready { Ready s.new }
 {
-    if b.len() == 0 {
+    if b.is_empty() {
         return;
     }
-    shut_steps(bookings_of(b), second(b), s);
+    shut_steps(&windows_of(b, weekday_of(b)), second(b), s);
 }

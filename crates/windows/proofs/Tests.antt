@@ -1,52 +1,78 @@
 -- What the tests of the code say of a window block. Assumes nothing.
-use mathlib.Core.Path.{◌≡◌, sym, ◌∙◌}
-use mathlib.Core.Logic.{◌≢◌}
+use mathlib.Core.Path.{◌≡◌, refl, sym, ap, ◌∙◌}
+use mathlib.Core.Logic.{◌≢◌, ◌⊎◌, inl, inr}
 use Prim.Native.Nat.{ℕ, ◌≤◌, ◌<◌}
-use mathlib.Core.Bool.{Bool, true, false, or-true}
+use mathlib.Core.Bool.{Bool, true, false, not, ◌||◌, ◌&&◌, or-true}
 use mathlib.Core.List.{List}
+use native.Mathlib.Omega.{arith}
 use lib.Dec.{leb, ltb}
 use lib.ListN.{length}
 use Rattle.basics.specs.Choice.{less}
-use Rattle.basics.proofs.Choice.{lt_less, le_less, equal_same, unequal_same, at_most}
+use Rattle.basics.proofs.Choice.{lt_less, le_less, compare, equal_same, unequal_same, at_most}
 use Rattle.block.specs.Block.{block_size, block_refusal}
 use Rattle.job.specs.Refusals.{outside}
-use Rattle.calendar.specs.Dates.{is_date}
+use Rattle.calendar.specs.Dates.{from_to, is_date, in_century}
+use Rattle.windows.specs.declared.Entry.{Entry}
+use Rattle.windows.specs.Entry.{entry_of}
 use Rattle.windows.specs.Fields.{year, month, day, second, weekdays, opening, closing, day_minutes, day_seconds}
 use Rattle.windows.specs.Refused.{bad_start, bad_window, bad_entries, bad_rest, bad_block, no_block, bad_windows}
 
--- the start, by what the code reads of it: which test decides
-module _ (b : List ℕ) {y : ℕ} (is_year : y ≡ year b) where
-  pub year_early : y < 2000 → true ≡ bad_start b
-  unfolding bad_start outside
-  year_early h = simp (← is_year, lt_less h)
+-- tests one after another, and what they come to where the first ones are met or not
+module _ {t a : Bool} where
+  pub or_met : (b : Bool) → t ≡ a → t ≡ true → t ≡ a || b
+  or_met b e met = met ∙ simp (sym e ∙ met)
 
-  pub year_late : 2099 < y → true ≡ bad_start b
-  unfolding bad_start outside
-  year_late h = simp (← is_year, lt_less h, or-true)
+  pub or_missed : {b : Bool} → t ≡ a → t ≡ false → b ≡ a || b
+  or_missed e missed = simp (sym e ∙ missed)
 
-  module _ (from : 2000 ≤ y) (to : y ≤ 2099) {m d : ℕ} {t : Bool} (is_month : m ≡ month b) (is_day : d ≡ day b) (tested : t ≡ is_date y m d) where
-    pub date_missing : t ≡ false → true ≡ bad_start b
-    unfolding bad_start outside
-    date_missing e = simp (← is_year, ← is_month, ← is_day, sym tested ∙ e, or-true)
+-- the start, by whether its date is one of the century
+two_tests : (a b c : Bool) → a || b || not c ≡ not (not a && not b && c)
+two_tests true b c = refl
+two_tests false true c = refl
+two_tests false false c = refl
 
-    pub date_there : {s : ℕ} → t ≡ true → s ≡ second b → leb day_seconds s ≡ bad_start b
-    unfolding bad_start outside
-    date_there {s} e is_second = at_most day_seconds s ∙ simp (← is_year, ← is_month, ← is_day, ← is_second, sym tested ∙ e, le_less from, le_less to)
+start_is : (b : List ℕ) → bad_start b ≡ not (in_century (year b) (month b) (day b)) || not (less (second b) day_seconds)
+unfolding bad_start outside in_century from_to
+start_is b =
+    ap (λ (t : Bool). t || not (less (second b) day_seconds)) (two_tests (less (year b) 2000) (less 2099 (year b)) (is_date (year b) (month b) (day b)))
 
--- an entry likewise
-module _ (b : List ℕ) (p : ℕ) {w : ℕ} (bits : w ≡ weekdays b p) where
-  pub bits_past : 128 ≤ w → true ≡ bad_window b p
-  unfolding bad_window
-  bits_past h = simp (← bits, le_less h)
+module _ (b : List ℕ) {dated : Bool} (e : dated ≡ in_century (year b) (month b) (day b)) where
+  pub date_missing : dated ≡ false → true ≡ bad_start b
+  date_missing missed = sym (start_is b ∙ simp (sym e ∙ missed))
 
-  module _ (few : w < 128) {from : ℕ} (opens : from ≡ opening b p) where
-    pub opens_past : day_minutes < from → true ≡ bad_window b p
-    unfolding bad_window
-    opens_past h = simp (← opens, lt_less h, or-true)
+  pub date_there : {s : ℕ} → dated ≡ true → s ≡ second b → leb day_seconds s ≡ bad_start b
+  date_there {s} there is_second = at_most day_seconds s ∙ ap (λ (n : ℕ). not (less n day_seconds)) is_second ∙ sym (start_is b ∙ simp (sym e ∙ there))
 
-    pub closes_last : {to : ℕ} → from ≤ day_minutes → to ≡ closing b p → ltb day_minutes to ≡ bad_window b p
-    unfolding bad_window less
-    closes_last h closes = simp (← bits, ← opens, ← closes, lt_less few, le_less h)
+-- the entry of a process: its weekdays or its opening are out of range, or its closing decides
+past_bits : (w : ℕ) → less 127 w ≡ not (less w 128)
+past_bits w = go (compare 128 w)
+  where
+    go : (128 ≤ w) ⊎ (w < 128) → less 127 w ≡ not (less w 128)
+    go (inl h) = lt_less (omega arith) ∙ sym (ap not (le_less h))
+    go (inr h) = le_less (omega arith) ∙ sym (ap not (lt_less h))
+
+pub opening_past : {w from : ℕ} → w ≤ 127 → (127 < w) ⊎ ((w ≤ 127) × (day_minutes < from)) → ltb day_minutes from ≡ true
+unfolding less
+opening_past h (inl bits) = absurd (omega arith)
+opening_past h (inr past) = lt_less past.1
+
+pub bits_past : {w : ℕ} → 127 < w → ltb 127 w ≡ true
+unfolding less
+bits_past h = lt_less h
+
+module _ (b : List ℕ) (p : ℕ) {entry : Entry} (e : entry ≡ entry_of b p) where
+  window_is : less 127 entry.weekdays || less day_minutes entry.opening || less day_minutes entry.closing ≡ bad_window b p
+  unfolding entry_of bad_window
+  window_is =
+      ap (λ (x : Entry). less 127 x.weekdays || less day_minutes x.opening || less day_minutes x.closing) e
+      ∙ ap (λ (t : Bool). t || less day_minutes (opening b p) || less day_minutes (closing b p)) (past_bits (weekdays b p))
+
+  pub window_past : (127 < entry.weekdays) ⊎ ((entry.weekdays ≤ 127) × (day_minutes < entry.opening)) → true ≡ bad_window b p
+  window_past (inl bits) = sym (sym window_is ∙ simp (lt_less bits))
+  window_past (inr past) = sym (sym window_is ∙ simp (lt_less past.1, or-true))
+
+  pub window_last : (entry.weekdays ≤ 127) × (entry.opening ≤ day_minutes) → less day_minutes entry.closing ≡ bad_window b p
+  window_last h = sym (sym window_is ∙ simp (le_less h.0, le_less h.1))
 
 -- a block likewise: sums and number, start, entries, rest
 module _ (b : List ℕ) {n : ℕ} (number : n ≡ block_refusal 0 b) where
@@ -54,19 +80,9 @@ module _ (b : List ℕ) {n : ℕ} (number : n ≡ block_refusal 0 b) where
   unfolding bad_block
   refused_block h = simp (← number, unequal_same h)
 
-  module _ (given : n ≡ 0) {s : Bool} (start : s ≡ bad_start b) where
-    pub refused_start : s ≡ true → true ≡ bad_block b
-    unfolding bad_block
-    refused_start e = simp (← start, e, or-true)
-
-    module _ (Good_start : s ≡ false) {w : Bool} (entries : w ≡ bad_entries b) where
-      pub refused_entries : w ≡ true → true ≡ bad_block b
-      unfolding bad_block
-      refused_entries e = simp (← entries, e, or-true)
-
-      pub rest_decides : {r : Bool} → w ≡ false → r ≡ bad_rest b → r ≡ bad_block b
-      unfolding bad_block
-      rest_decides e rest = rest ∙ simp (← number, equal_same given, ← start, Good_start, ← entries, e)
+  pub tests_decide : n ≡ 0 → bad_start b || bad_entries b || bad_rest b ≡ bad_block b
+  unfolding bad_block
+  tests_decide given = simp (← number, equal_same given)
 
 -- a second input: empty, of another length, of one block
 module _ (b : List ℕ) where

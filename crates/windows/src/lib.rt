@@ -1,28 +1,45 @@
 // The window block: its fields, and when it is turned back.
 #![tactic(auto)]
 
-ghost use Rattle.std.specs.Prelude.{◌≡◌, ◌+◌, ◌≤◌, ◌<◌, length};
-ghost use Rattle.basics.specs.Words.{word};
+ghost use Rattle.std.specs.Prelude.{◌≡◌, ◌≤◌, ◌<◌, false, length, MatchOption};
 ghost use Rattle.block.specs.Block.{block_size};
-ghost use Rattle.windows.specs.Fields.{year, month, day, second, entry_at, weekdays, opening, closing, booked_processes};
+ghost use Rattle.calendar.specs.Dates.{in_century};
+ghost use Rattle.windows.specs.Fields.{year, month, day, second, booked_processes};
+ghost use Rattle.windows.specs.Entry.{entry_of};
 ghost use Rattle.windows.specs.Refused.{bad_start, bad_window, bad_entries, bad_rest, bad_block, bad_windows};
 
 use block::{BLOCK, PAYLOAD, check};
-use calendar::is_date;
+use calendar::Date;
+use job::Process;
 use memory::word_at;
 
-// The processes that a block books for.
+// The processes that a block books for, however many a job has.
 const PROCESSES: u8 = 8;
 // The minutes and the seconds of a day.
-const DAY_MINUTES: u16 = 1440;
+pub const DAY_MINUTES: u16 = 1440;
 
 const DAY_SECONDS: u32 = 86400;
-// Where zeros follow: behind the eight entries, up to the sums.
+// Every weekday's bit; bit 7 is none's.
+const ALL_DAYS: u8 = 127;
+// Where the eight entries stand, and the bytes of each.
+const ENTRIES: usize = 10;
+
+const ENTRY: usize = 5;
+// Where zeros follow: behind the entries, up to the sums.
 const REST: usize = 50;
 
 const REST_END: usize = 2 + PAYLOAD;
 
+// The entry of a process: its weekdays, a bit each, and the minutes at which its window opens and closes.
+#[derive(Clone, Copy, PartialEq, Eq, Debug)]
+pub struct Entry {
+    pub weekdays: u8,
+    pub opening: u16,
+    pub closing: u16,
+}
+
 // The year of the start.
+#[tactic(auto, unfolding(block::specs::Block::block_size, basics::specs::Maps::at, crate::specs::Fields::year))]
 pub fn year(b: &[u8]) -> u16
     requires { block_size ≤ length b.now }
     ensures { result ≡ year b.now }
@@ -31,6 +48,7 @@ pub fn year(b: &[u8]) -> u16
 }
 
 // Its month.
+#[tactic(auto, unfolding(block::specs::Block::block_size, basics::specs::Maps::at, crate::specs::Fields::month))]
 pub fn month(b: &[u8]) -> u8
     requires { block_size ≤ length b.now }
     ensures { result ≡ month b.now }
@@ -39,6 +57,7 @@ pub fn month(b: &[u8]) -> u8
 }
 
 // Its day.
+#[tactic(auto, unfolding(block::specs::Block::block_size, basics::specs::Maps::at, crate::specs::Fields::day))]
 pub fn day(b: &[u8]) -> u8
     requires { block_size ≤ length b.now }
     ensures { result ≡ day b.now }
@@ -46,7 +65,16 @@ pub fn day(b: &[u8]) -> u8
     b[5]
 }
 
+// The date of the start, if it is one of the years 2000 to 2099.
+pub fn start_date(b: &[u8]) -> Option<Date>
+    requires { block_size ≤ length b.now }
+    ensures { MatchOption result (in_century (year b.now) (month b.now) (day b.now) ≡ false) (λ d. (d.year ≡ year b.now) × (d.month ≡ month b.now) × (d.day ≡ day b.now)) }
+{
+    Date::new(year(b), month(b), day(b))
+}
+
 // Its second of the day.
+#[tactic(auto, unfolding(block::specs::Block::block_size, basics::specs::Maps::at, crate::specs::Fields::second))]
 pub fn second(b: &[u8]) -> u32
     requires { block_size ≤ length b.now }
     ensures { result ≡ second b.now }
@@ -54,45 +82,18 @@ pub fn second(b: &[u8]) -> u32
     65536 * (word_at(b, 6) as u32) + word_at(b, 8) as u32
 }
 
-// Where the entry of a process stands.
-fn entry_at(p: u8) -> usize
-    ensures { result ≡ entry_at p }
+// The entry of a process.
+#[tactic(auto, unfolding(block::specs::Block::block_size, basics::specs::Maps::at, crate::specs::Fields::weekdays, crate::specs::Fields::opening, crate::specs::Fields::closing, crate::specs::Fields::entry_at, crate::specs::Entry::entry_of))]
+pub fn entry_of(b: &[u8], p: Process) -> Entry
+    requires { (block_size ≤ length b.now) × (p.0 < booked_processes) }
+    ensures { result ≡ entry_of b.now p.0 }
 {
-    10 + 5 * (p as usize)
-}
-
-// The weekdays of a process's window, a bit each.
-pub fn weekdays(b: &[u8], p: u8) -> u8
-    requires { (block_size ≤ length b.now) × (p < booked_processes) }
-    ensures { result ≡ weekdays b.now p }
-{
-    let place = entry_at(p);
-    b[place]
-}
-
-// The number in two bytes of a process's entry.
-fn entry_word(b: &[u8], p: u8, i: usize) -> u16
-    requires { (block_size ≤ length b.now) × (p < booked_processes) × (i ≤ 3) }
-    ensures { result ≡ word b.now (entry_at p + i) }
-{
-    let place = entry_at(p);
-    word_at(b, place + i)
-}
-
-// The minute at which it opens.
-pub fn opening(b: &[u8], p: u8) -> u16
-    requires { (block_size ≤ length b.now) × (p < booked_processes) }
-    ensures { result ≡ opening b.now p }
-{
-    entry_word(b, p, 1)
-}
-
-// The minute at which it closes.
-pub fn closing(b: &[u8], p: u8) -> u16
-    requires { (block_size ≤ length b.now) × (p < booked_processes) }
-    ensures { result ≡ closing b.now p }
-{
-    entry_word(b, p, 3)
+    let place = ENTRIES + ENTRY * (p.0 as usize);
+    Entry {
+        weekdays: b[place],
+        opening: word_at(b, place + 1),
+        closing: word_at(b, place + 3),
+    }
 }
 
 // Is the start out of range, or no date?
@@ -100,31 +101,16 @@ fn bad_start(b: &[u8]) -> bool
     requires { block_size ≤ length b.now }
     ensures { result ≡ bad_start b.now }
 {
-    let year = year(b);
-    if year < 2000 {
-        return true;
-    }
-    if 2099 < year {
-        return true;
-    }
-    if is_date(year, month(b), day(b)) {
-        return second(b) >= DAY_SECONDS;
-    }
-    true
+    start_date(b).is_none() || second(b) >= DAY_SECONDS
 }
 
 // Is the entry of a process out of range?
-fn bad_window(b: &[u8], p: u8) -> bool
-    requires { (block_size ≤ length b.now) × (p < booked_processes) }
-    ensures { result ≡ bad_window b.now p }
+fn bad_window(b: &[u8], p: Process) -> bool
+    requires { (block_size ≤ length b.now) × (p.0 < booked_processes) }
+    ensures { result ≡ bad_window b.now p.0 }
 {
-    if weekdays(b, p) >= 128 {
-        return true;
-    }
-    if DAY_MINUTES < opening(b, p) {
-        return true;
-    }
-    DAY_MINUTES < closing(b, p)
+    let entry = entry_of(b, p);
+    entry.weekdays > ALL_DAYS || DAY_MINUTES < entry.opening || DAY_MINUTES < entry.closing
 }
 
 // Is an entry out of range?
@@ -132,14 +118,7 @@ fn bad_entries(b: &[u8]) -> bool
     requires { block_size ≤ length b.now }
     ensures { result ≡ bad_entries b.now }
 {
-    let mut p: u8 = 0;
-    while p < PROCESSES {
-        if bad_window(b, p) {
-            return true;
-        }
-        p += 1;
-    }
-    false
+    (0..PROCESSES).any(|p| bad_window(b, Process(p)))
 }
 
 // Is a byte behind the entries not zero?
@@ -147,14 +126,7 @@ fn bad_rest(b: &[u8]) -> bool
     requires { block_size ≤ length b.now }
     ensures { result ≡ bad_rest b.now }
 {
-    let mut i = REST;
-    while i < REST_END {
-        if b[i] != 0 {
-            return true;
-        }
-        i += 1;
-    }
-    false
+    b[REST..REST_END].iter().any(|byte| *byte != 0)
 }
 
 // Is a block of 512 bytes turned back?
@@ -165,24 +137,12 @@ fn bad_block(b: &[u8]) -> bool
     let Ok(_) = check(b, 0) else {
         return true;
     };
-    if bad_start(b) {
-        return true;
-    }
-    if bad_entries(b) {
-        return true;
-    }
-    bad_rest(b)
+    bad_start(b) || bad_entries(b) || bad_rest(b)
 }
 
 // Is a second input turned back? Number 13.
 pub fn bad_windows(b: &[u8]) -> bool
     ensures { result ≡ bad_windows b.now }
 {
-    if b.len() == 0 {
-        return false;
-    }
-    if b.len() != BLOCK {
-        return true;
-    }
-    bad_block(b)
+    !b.is_empty() && (b.len() != BLOCK || bad_block(b))
 }

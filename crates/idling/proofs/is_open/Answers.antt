@@ -1,12 +1,27 @@
 -- `idling::is_open` meets its contract: each window is a part of the condition. Assumes nothing.
-use Rattle.idling.proofs.Tests.{open_since_yesterday, open_today, open_tomorrow}
+use mathlib.Core.Path.{◌∙◌}
+use Rattle.windows.proofs.Tests.{or_met, or_missed}
+use Rattle.idling.specs.Minutes.{open_at}
 use Rattle.idling.proofs.is_open.Goals as goal
-
-pub returns-then-holds : goal.returns-then-holds
-returns-then-holds c = open_since_yesterday _ _ c.holds.ensures c.if-holds.true
+use Rattle.idling.proofs.is_open.Goals.{then-holds, else-holds}
 
 pub returns-then-holds-2 : goal.returns-then-holds-2
-returns-then-holds-2 c = open_today _ _ c.holds.ensures c.if-holds.false c.holds-2.ensures c.if-holds-2.true
+unfolding open_at
+returns-then-holds-2 c =
+    or_met _
+    (elim c.if-holds.branch [
+      | then-holds w ↦ or_met _ (w.value-is ∙ c.holds.ensures) (w.value-is ∙ w.if-holds.true)
+      | else-holds w ↦ w.value-is ∙ w.holds-else-holds.ensures ∙ or_missed c.holds.ensures w.if-holds.false
+    ])
+    c.if-holds-2.true
 
-pub returns : goal.returns
-returns c = open_tomorrow _ _ c.holds.ensures c.if-holds.false c.holds-2.ensures c.if-holds-2.false c.holds-3.ensures
+pub returns-else-holds-2 : goal.returns-else-holds-2
+unfolding open_at
+returns-else-holds-2 c =
+    c.holds-else-holds-2.ensures
+    ∙ or_missed
+    (elim c.if-holds.branch [
+      | then-holds w ↦ or_met _ (w.value-is ∙ c.holds.ensures) (w.value-is ∙ w.if-holds.true)
+      | else-holds w ↦ w.value-is ∙ w.holds-else-holds.ensures ∙ or_missed c.holds.ensures w.if-holds.false
+    ])
+    c.if-holds-2.false

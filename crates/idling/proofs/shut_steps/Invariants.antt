@@ -4,7 +4,7 @@ use Rattle.idling.proofs.Turns.{Turning}
 use Rattle.idling.proofs.shut_steps.Given as goal
 
 abbrev pub invariant-loop-done : goal.invariant-loop-done
-invariant-loop-done l = Turning l.bookings.windows l.second l.initial.s l.first l.steps l.minute l.end l.done l.s
+invariant-loop-done l = Turning l.bookings l.second l.initial.s l.first l.steps l.minute l.end l.done l.s
 
 abbrev pub decreases-loop-done : goal.decreases-loop-done
 decreases-loop-done l = l.steps - l.done

@@ -1,17 +1,31 @@
 -- `windows::bad_block` meets its contract: each test is a part of the condition. Assumes nothing.
-use mathlib.Core.Path.{refl}
+use mathlib.Core.Path.{refl, ◌∙◌}
 use Rattle.block.proofs.Given.{error_counts}
-use Rattle.windows.proofs.Tests.{refused_block, refused_start, refused_entries, rest_decides}
+use Rattle.windows.specs.Refused.{bad_entries, bad_rest}
+use Rattle.windows.proofs.Tests.{or_met, or_missed, refused_block, tests_decide}
 use Rattle.windows.proofs.bad_block.Goals as goal
+use Rattle.windows.proofs.bad_block.Goals.{then-bad_start, else-bad_start}
 
 pub returns-in_default : goal.returns-in_default
 returns-in_default c = refused_block _ c.in_default.ensures.number (error_counts c.in_default.field-0)
 
-pub returns-then-bad_start : goal.returns-then-bad_start
-returns-then-bad_start c = refused_start _ c.in-Ok.ensures.number refl c.bad_start.ensures c.if-bad_start.true
-
 pub returns-then-bad_entries : goal.returns-then-bad_entries
-returns-then-bad_entries c = refused_entries _ c.in-Ok.ensures.number refl c.bad_start.ensures c.if-bad_start.false c.bad_entries.ensures c.if-bad_entries.true
+returns-then-bad_entries c =
+    or_met (bad_rest c.args.b.now)
+    (elim c.if-bad_start.branch [
+      | then-bad_start w ↦ or_met (bad_entries c.args.b.now) (w.value-is ∙ c.bad_start.ensures) (w.value-is ∙ w.if-bad_start.true)
+      | else-bad_start w ↦ w.value-is ∙ w.bad_entries.ensures ∙ or_missed c.bad_start.ensures w.if-bad_start.false
+    ])
+    c.if-bad_entries.true
+    ∙ tests_decide _ c.in-Ok.ensures.number refl
 
-pub returns : goal.returns
-returns c = rest_decides _ c.in-Ok.ensures.number refl c.bad_start.ensures c.if-bad_start.false c.bad_entries.ensures c.if-bad_entries.false c.bad_rest.ensures
+pub returns-else-bad_entries : goal.returns-else-bad_entries
+returns-else-bad_entries c =
+    c.bad_rest.ensures
+    ∙ or_missed
+    (elim c.if-bad_start.branch [
+      | then-bad_start w ↦ or_met (bad_entries c.args.b.now) (w.value-is ∙ c.bad_start.ensures) (w.value-is ∙ w.if-bad_start.true)
+      | else-bad_start w ↦ w.value-is ∙ w.bad_entries.ensures ∙ or_missed c.bad_start.ensures w.if-bad_start.false
+    ])
+    c.if-bad_entries.false
+    ∙ tests_decide _ c.in-Ok.ensures.number refl

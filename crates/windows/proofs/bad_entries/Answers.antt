@@ -1,20 +1,14 @@
--- `windows::bad_entries` meets its contract. The loop's invariant: the entries that are left decide. The measure is their number.
--- Assumes nothing.
-use mathlib.Core.Path.{refl, sym, ◌∙◌}
-use Rattle.job.proofs.Conditions.{any_met, any_next, any_end}
+-- `windows::bad_entries` meets its contract. Assumes nothing.
+use Rattle.std.proofs.Common.{ℕ, Bool, ◌∙◌, refl, rules, tests}
+use Rattle.std.proofs.lemmas.Iterator.{YieldsList-from_range}
+use Rattle.std.proofs.lemmas.Iterator.Search.{any_from_yields_List}
 use Rattle.windows.specs.Refused.{bad_window, bad_entries}
-use native.Mathlib.Omega.{arith}
+use Rattle.windows.proofs.Any.{any_numbers}
 use Rattle.windows.proofs.bad_entries.Goals as goal
 
-pub loop-p-init : goal.loop-p-init
-unfolding bad_entries
-loop-p-init c = (omega arith, refl)
-
-pub returns-then-bad_window : goal.returns-then-bad_window
-returns-then-bad_window c = any_met (bad_window _) c.loop-p-test.true (sym c.bad_window.ensures ∙ c.if-bad_window.true) ∙ c.loop-p.invariant.1
-
-pub loop-p-preserved : goal.loop-p-preserved
-loop-p-preserved c = (omega arith, any_next (bad_window _) c.loop-p-test.true (sym c.bad_window.ensures ∙ c.if-bad_window.false) ∙ c.loop-p.invariant.1)
-
 pub returns : goal.returns
-returns c = any_end (bad_window _) c.loop-p-test.false ∙ c.loop-p.invariant.1
+unfolding bad_entries
+returns c =
+    let test : ℕ → Bool = bad_window c.args.b.now in
+    any_from_yields_List test _ _ c.any.result c.any.ensures.ran (YieldsList-from_range 0 8 8 refl refl) (λ x b q k. search (rules, tests))
+    ∙ any_numbers test 0 8
