@@ -21,7 +21,7 @@ ghost use Rattle.idling.specs.Rewritten.{Rewritten};
 ghost use Rattle.idling.specs.Entries.{entry_kept, entries_kept, may_act, first_entry};
 
 use calendar::Weekday;
-use job::{Limits, Process, operations, process_of, schedule_at, schedule_length, slot_of};
+use job::{Limits, Process, Stream, process_of, schedule_at, slot_of};
 use std::array;
 use windows::{DAY_MINUTES, entry_of, second, start_date};
 
@@ -165,8 +165,9 @@ fn shut_steps(bookings: &Bookings, second: u32, s: &mut [u8])
     requires { InDays bookings.now × (second < day_seconds) × Ready s.old × Named s.old }
     ensures { Rewritten (entries_kept (may_act bookings.now second) s.old) (first_entry s.old) (first_entry s.old + schedule_length s.old) s.old s.new }
 {
-    let first = schedule_at(operations(s)) + 1;
-    let steps = schedule_length(s) as usize;
+    let stream = Stream::over(s);
+    let first = schedule_at(stream.operations()) + 1;
+    let steps = usize::from(stream.schedule_length());
     let mut minute = (second / 60) as u16;
     // counted by hand: behind a loop over `chunks_mut` the prover does not know what the stream holds
     // the last step of the minute, and the last step that is done

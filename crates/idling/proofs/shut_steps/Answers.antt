@@ -1,10 +1,11 @@
 -- `idling::shut_steps` meets its contract: the loop's invariant is `Turning`; the measure is how many steps are left. Assumes nothing.
-use mathlib.Core.Path.{refl}
+use mathlib.Core.Path.{refl, ap, ◌∙◌}
 use native.Mathlib.Omega.{arith}
 use Prim.Native.Nat.{ℕ, ◌<◌}
 use mathlib.Core.Bool.{false}
 use lib.ListN.{get_or}
 use Rattle.job.specs.Limits.{field}
+use Rattle.job.specs.Stream.{operations, schedule_length}
 use Rattle.job.specs.Slot.{slot_of, process_of}
 use Rattle.idling.specs.Entries.{entry_kept}
 use Rattle.job.proofs.Ready.{header_there}
@@ -13,10 +14,12 @@ use Rattle.idling.proofs.Turns.{turning_start, turning_fits, turning_on, turning
 use Rattle.idling.proofs.shut_steps.Goals as goal
 
 pub overflow_add-first : goal.overflow_add-first
-overflow_add-first c = omega (arith, c.schedule_at-first.ensures, c.operations.ensures, c.requires.2.rows)
+overflow_add-first c = omega (arith, c.schedule_at-first.ensures, c.operations.ensures, ap operations c.over-stream.ensures, c.requires.2.rows)
 
 pub loop-done-init : goal.loop-done-init
-loop-done-init c = turning_start _ _ _ c.schedule_at-first.ensures c.operations.ensures refl c.schedule_length-steps.ensures
+loop-done-init c = turning_start _ _ _ c.schedule_at-first.ensures
+    (c.operations.ensures ∙ ap operations c.over-stream.ensures) refl
+    (c.from-steps.ensures ∙ c.schedule_length.ensures ∙ ap schedule_length c.over-stream.ensures)
 
 pub slice_bounds-shut_stretch-end : goal.slice_bounds-shut_stretch-end
 slice_bounds-shut_stretch-end c = omega (arith, turning_fits _ _ _ c.loop-done.invariant c.requires.2, c.min-last.ensures)
@@ -38,8 +41,5 @@ loop-done-preserved c =
     turning_next _ _ _ inv more pre.3 (omega (arith, min)) c.allowed_at-allowed.ensures (omega (arith, min)) (λ h. omega (arith, min))
     (rewritten_part (entry_kept (λ (p : ℕ). get_or c.allowed_at-allowed.result p false)) c.loop-done.s (omega (arith, turning_on _ _ _ inv more {last = c.min-last.result} (λ h. omega (arith, min)))) (omega (arith, turning_fits _ _ _ inv pre.2, min)) c.shut_stretch.ensures)
 
-pub operations-requires : goal.operations-requires
-operations-requires c = header_there c.requires.2
-
-pub schedule_length-steps-requires : goal.schedule_length-steps-requires
-schedule_length-steps-requires c = header_there c.requires.2
+pub over-stream-requires : goal.over-stream-requires
+over-stream-requires c = header_there c.requires.2
