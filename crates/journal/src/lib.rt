@@ -76,7 +76,7 @@ pub fn note(event: Event, o: Operation, k: Step, ops: &mut [u16])
     }
 }
 
-// One more round is lost.
+// One more round is lost. Row 0 is no operation's: its first cell has how many are.
 pub fn count_lost(ops: &mut [u16])
     requires { Countable ops.old }
     ensures { cells ops.new ≡ counted true (cells ops.old) }
