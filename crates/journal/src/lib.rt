@@ -12,7 +12,7 @@ use job::{Operation, Step};
 use machine::Event;
 use rows::{OpColumn, cell, store};
 
-// The step that a cell keeps: the one that it has, or k if it has none.
+// The step that a cell keeps: the one that it has, or k if it has none. A cell is a number, so none is 0, which is no step.
 fn earlier(old: u16, k: Step) -> u16
     ensures { result ≡ earlier old k.0 }
 {
