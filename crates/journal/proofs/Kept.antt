@@ -8,8 +8,10 @@ use Rattle.basics.specs.Choice.{pick, same}
 use Rattle.basics.specs.Maps.{upd}
 use Rattle.basics.proofs.Choice.{split, pick_then, pick_else, pick_elim, same_equal, equal_same, same_unequal, unequal_same}
 use Rattle.basics.proofs.Maps.{upd_elim, upd_id}
-use Rattle.rows.specs.Operations.{Column, Cells, stored, dropped_mark}
-use Rattle.rows.specs.Operations.Column.{First, Last, Start, Link, Taken, Stands}
+use Rattle.rows.specs.Rows.{stored_in}
+use Rattle.rows.specs.declared.OpColumn.{OpColumn}
+use Rattle.rows.specs.Operations.{Cells, stored, dropped_mark}
+use Rattle.rows.specs.declared.OpColumn.TheVariants.{First, Last, Start, Link, Taken, Stands}
 use Rattle.rows.proofs.Operations.{by_column}
 use Rattle.job.specs.Job.{Job}
 use Rattle.machine.specs.declared.Event.{Event}
@@ -30,6 +32,11 @@ use Rattle.journal.specs.Stored.{earlier, entered, noted, closed}
 use Rattle.journal.specs.Journal.{ending, held, Agrees}
 
 module _ (j : Job) where
+  -- a column after a store is that of k steps if the value stored is, and if every other row's was
+  column_stored : (k : ℕ) (c : Cells) (f : OpColumn) (o v q : ℕ) → (q ≡ o → v ≡ held j k f o) → (q ≢ o → c f q ≡ held j k f q) → upd (c f) o v q ≡ held j k f q
+  column_stored k c f o v q own others =
+      upd_elim (λ x. x ≡ held j k f q) (c f) o v q (λ here. own here ∙ ap (held j k f) (sym here)) others
+
   -- the end of an operation that a step does not drop
   ending_kept : (k o : ℕ) → dropped j (suc k) ≢ o → last (note j) (suc k) o ≡ last (note j) k o → ending j (suc k) o ≡ ending j k o
   ending_kept k o n l = ap₂ (λ x y. pick (same x 0) y dropped_mark) (drop_other j o k n) l
@@ -74,7 +81,7 @@ module _ (j : Job) where
         (λ there. last_passes q op (λ e. there (sym e ∙ d)))
 
     pub drop_keeps : (o : ℕ) → dropped j (suc k) ≡ o → Agrees j (suc k) (stored Last o dropped_mark c)
-    unfolding stored pick same
+    unfolding stored_in pick same
     drop_keeps o d =
         by_column (λ f. (q : ℕ) → IsOperation j.count q → stored Last o dropped_mark c f q ≡ held j (suc k) f q)
         first_passes (dropped_stored o d) start_passes link_passes taken_passes stands_passes
@@ -113,23 +120,17 @@ module _ (j : Job) where
 
     taken_stored : (n : ℕ) → Sounding heard → item_of heard ≡ n → (q : ℕ) → IsOperation j.count q → upd (c Taken) o n q ≡ taken (note j) (suc k) q
     taken_stored n s e q op =
-        upd_elim (λ x. x ≡ taken (note j) (suc k) q) (c Taken) o n q
-        (λ here. took_now n s e (split n 0) ∙ ap (taken (note j) (suc k)) (sym here))
-        (λ there. a Taken q op ∙ sym (taken_other (note j) k q (other there)))
+        column_stored (suc k) c Taken o n q (λ here. took_now n s e (split n 0)) (λ there. a Taken q op ∙ sym (taken_other (note j) k q (other there)))
 
     start_stored : heard ≡ Round → (q : ℕ) → IsOperation j.count q → upd (c Start) o (suc k) q ≡ start (note j) (suc k) q
     start_stored e q op =
-        upd_elim (λ x. x ≡ start (note j) (suc k) q) (c Start) o (suc k) q
-        (λ here. sym (start_new (note j) k o acts.by e) ∙ ap (start (note j) (suc k)) (sym here))
-        (λ there. a Start q op ∙ sym (start_other (note j) k q (other there)))
+        column_stored (suc k) c Start o (suc k) q (λ here. sym (start_new (note j) k o acts.by e)) (λ there. a Start q op ∙ sym (start_other (note j) k q (other there)))
 
     link_stored : heard ≡ Linked → (q : ℕ) → IsOperation j.count q → upd (c Link) o (suc k) q ≡ link (note j) (suc k) q
     unfolding deeds
     link_stored e q op =
         let g : Going (deeds (note j) k o) = before_sound (course j) k o acts (subst Sounding (sym e) tt) in
-        upd_elim (λ x. x ≡ link (note j) (suc k) q) (c Link) o (suc k) q
-        (λ here. sym (link_new (note j) k o acts.by e g.no_link) ∙ ap (link (note j) (suc k)) (sym here))
-        (λ there. a Link q op ∙ sym (link_other (note j) k q (other there)))
+        column_stored (suc k) c Link o (suc k) q (λ here. sym (link_new (note j) k o acts.by e g.no_link)) (λ there. a Link q op ∙ sym (link_other (note j) k q (other there)))
 
     -- where Head moved to an item
     moved_here : (n : ℕ) → heard ≡ Moved n → IsOperation j.count n → earlier (c Stands n) (suc k) ≡ takes_at j.object (note j) j.count (suc k) n
@@ -142,21 +143,18 @@ module _ (j : Job) where
     moved_stored : (n : ℕ) → heard ≡ Moved n → (item : ℕ) → IsOperation j.count item → upd (c Stands) n (earlier (c Stands n) (suc k)) item ≡ takes_at j.object (note j) j.count (suc k) item
     unfolding item_of
     moved_stored n e item op =
-        upd_elim (λ x. x ≡ takes_at j.object (note j) j.count (suc k) item) (c Stands) n (earlier (c Stands n) (suc k)) item
-        (λ here. moved_here n e (subst (IsOperation j.count) here op) ∙ ap (takes_at j.object (note j) j.count (suc k)) (sym here))
-        (λ there. stands_kept item op (λ q. there (sym q ∙ ap item_of e)))
+        column_stored (suc k) c Stands n (earlier (c Stands n) (suc k)) item (λ here. moved_here n e (subst (IsOperation j.count) here op)) (λ there. stands_kept item op (λ q. there (sym q ∙ ap item_of e)))
 
     -- where a mark was raised
     raised_stored : (t : ℕ) → heard ≡ Raised t → (item : ℕ) → IsOperation j.count item → upd (c Stands) t (max (c Stands t) (c Start o)) item ≡ takes_at j.object (note j) j.count (suc k) item
     unfolding item_of
     raised_stored t e item op =
         let own : IsOperation j.count o = acts.operation in
-        upd_elim (λ x. x ≡ takes_at j.object (note j) j.count (suc k) item) (c Stands) t (max (c Stands t) (c Start o)) item
+        column_stored (suc k) c Stands t (max (c Stands t) (c Start o)) item
         (λ here.
         let node : IsOperation j.count t = subst (IsOperation j.count) here op in
         (λ i. max (a Stands t node i) (a Start o own i))
-        ∙ sym (stands_raised (course j) k o acts t e (operation_some node))
-        ∙ ap (takes_at j.object (note j) j.count (suc k)) (sym here))
+        ∙ sym (stands_raised (course j) k o acts t e (operation_some node)))
         (λ there. stands_kept item op (λ q. there (sym q ∙ ap item_of e)))
 
     late_kept : (n : ℕ) → heard ≡ Late n → (item : ℕ) → IsOperation j.count item → (item ≡ n) ⊎ (item ≢ n) → c Stands item ≡ takes_at j.object (note j) j.count (suc k) item
@@ -176,9 +174,7 @@ module _ (j : Job) where
 
     first_stored : (q : ℕ) → IsOperation j.count q → upd (c First) o (earlier (c First o) (suc k)) q ≡ first (note j) (suc k) q
     first_stored q op =
-        upd_elim (λ x. x ≡ first (note j) (suc k) q) (c First) o (earlier (c First o) (suc k)) q
-        (λ here. first_here ∙ ap (first (note j) (suc k)) (sym here))
-        (λ there. a First q op ∙ sym (first_other (note j) k q (other there)))
+        column_stored (suc k) c First o (earlier (c First o) (suc k)) q (λ here. first_here) (λ there. a First q op ∙ sym (first_other (note j) k q (other there)))
 
     -- who makes a step was not dropped, and the step drops none
     drops_none : {q : ℕ} → IsOperation j.count q → dropped j (suc k) ≢ q
@@ -191,21 +187,21 @@ module _ (j : Job) where
     last_stored : (ends : Bool) → is_answer (note j (suc k)).answer ≡ ends → (q : ℕ) → IsOperation j.count q → upd (c Last) o (pick ends (suc k) (c Last o)) q ≡ ending j (suc k) q
     unfolding pick deeds
     last_stored true e q op =
-        upd_elim (λ x. x ≡ ending j (suc k) q) (c Last) o (suc k) q
-        (λ here. sym (last_new (note j) k o acts.by e (acts_new (course j) k o acts).not_over) ∙ sym not_dropped ∙ ap (ending j (suc k)) (sym here))
+        column_stored (suc k) c Last o (suc k) q
+        (λ here. sym (last_new (note j) k o acts.by e (acts_new (course j) k o acts).not_over) ∙ sym not_dropped)
         (λ there. a Last q op ∙ sym (ending_kept k q (drops_none op) (last_other (note j) k q (other there))))
     last_stored false e q op = ap (λ f. f q) (upd_id (c Last) o) ∙ a Last q op ∙ sym (ending_kept k q (drops_none op) (last_unless (note j) k q e))
 
     -- by the event
     module _ (ends : Bool) (answers : is_answer (note j (suc k)).answer ≡ ends) where
-      abbrev Kept : Event → Column → Type 0
+      abbrev Kept : Event → OpColumn → Type 0
       Kept e f = (q : ℕ) → IsOperation j.count q → closed ends o (suc k) (noted e o (suc k) (entered o (suc k) c)) f q ≡ held j (suc k) f q
 
       quiet_item : {e : Event} → heard ≡ e → item_of e ≡ 0 → (item : ℕ) → IsOperation j.count item → c Stands item ≡ takes_at j.object (note j) j.count (suc k) item
       quiet_item e none item op = stands_kept item op (λ q. operation_some op (sym q ∙ ap item_of e ∙ none))
 
-      kept_by : (e : Event) → heard ≡ e → (f : Column) → Kept e f
-      unfolding entered noted closed stored pick same item_of is_round is_linked
+      kept_by : (e : Event) → heard ≡ e → (f : OpColumn) → Kept e f
+      unfolding entered noted closed stored_in pick same item_of is_round is_linked
       kept_by Quiet e =
           by_column (Kept Quiet) first_stored (last_stored ends answers) (start_kept (ap is_round e)) (link_kept (ap is_linked e)) (taken_kept (ap item_of e)) (quiet_item e refl)
       kept_by Round e =
