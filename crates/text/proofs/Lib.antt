@@ -2,3 +2,5 @@
 pub mod Laid
 pub mod Pages
 pub mod Digits
+pub mod Each
+pub mod Rest

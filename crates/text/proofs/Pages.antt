@@ -41,3 +41,20 @@ room_then {p} {q} {a} {b} h w = record { room = omega (arith, h.room, length-app
 
 pub room_same : {p : Page} {a b : List ℕ} → a ≡ b → HasRoom p a → HasRoom p b
 room_same {p} e h = subst (HasRoom p) e h
+
+-- or for a shorter one
+pub room_within : {p : Page} {a b : List ℕ} → length a ≤ length b → HasRoom p b → HasRoom p a
+room_within {p} {a} {b} h room = record { room = omega (arith, h, room.room) }
+
+-- a text that is known to be another, or two texts that are known to be one
+pub room_of : {p : Page} {a whole : List ℕ} → a ≡ whole → HasRoom p whole → HasRoom p a
+room_of e room = room_same (sym e) room
+
+pub room_front : {p : Page} {a whole : List ℕ} (b : List ℕ) → a ++ b ≡ whole → HasRoom p whole → HasRoom p a
+room_front b e room = room_first b (room_of e room)
+
+pub room_rest : {p q : Page} {a b whole : List ℕ} → a ++ b ≡ whole → HasRoom p whole → Wrote p q a → HasRoom q b
+room_rest e room w = room_then (room_of e room) w
+
+pub wrote_both : {p q r : Page} {a b whole : List ℕ} → a ++ b ≡ whole → Wrote p q a → Wrote q r b → Wrote p r whole
+wrote_both e v w = wrote_as e (wrote_then v w)
