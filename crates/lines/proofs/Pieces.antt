@@ -3,20 +3,21 @@ use mathlib.Core.Path.{◌≡◌, refl, sym, ap, ◌∙◌}
 use mathlib.Core.Logic.{◌≢◌}
 use Prim.Native.Nat.{ℕ}
 use mathlib.Core.Bool.{Bool, true, false}
+use lib.ListN.{length}
 use mathlib.Core.List.{List, [], ◌++◌, append_assoc, append-nil}
 use native.Mathlib.Omega.{arith}
 use Rattle.basics.specs.Choice.{pick, same}
 use Rattle.basics.specs.Text.{text, decimal}
 use Rattle.basics.proofs.Choice.{pick_then, pick_else, equal_same, unequal_same}
 use Rattle.rows.specs.Operations.{Cells, cells, dropped_mark}
-use Rattle.rows.specs.Operations.Column.{First, Last, Link, Taken}
+use Rattle.rows.specs.declared.OpColumn.TheVariants.{First, Last, Link, Taken}
 use Rattle.stage.specs.Printed.{stage_text}
 use Rattle.job.specs.declared.Operation.{Operation}
 use Rattle.job.specs.Job.{Job}
 use Rattle.machine.specs.Notes.{Answer}
-use Rattle.wording.specs.Report.{action_text, answer_text, effect_text, record_line, record_lines}
+use Rattle.wording.specs.Report.{action_text, answer_text, effect_text, record_line, spaced, left_line}
 use Rattle.lines.specs.declared.Found.{Found}
-use Rattle.lines.specs.declared.Found.TheVariants.{Nothing, Put, Takers, Empty}
+use Rattle.lines.specs.declared.Found.TheVariants.{Put, Takers, Empty}
 use Rattle.lines.specs.Members.{takers_of}
 use Rattle.lines.specs.Lines.{at_text, take_text, found_line}
 use Rattle.lines.specs.Told.{said, front_text, answer_told, end_told, progress_told}
@@ -91,21 +92,22 @@ front_pieces j o {process} e =
 
 -- the line that was found, by what was found
 module _ (taken : ℕ → ℕ) (count s : ℕ) {f : Found} where
-  as_found : {g : Found} {l : List ℕ} → f ≡ g → l ++ [] ≡ record_lines (found_line taken count s g) → l ≡ record_lines (found_line taken count s f)
-  as_found e t = sym (append-nil _) ∙ t ∙ ap (λ (x : Found). record_lines (found_line taken count s x)) (sym e)
+  as_found : {g : Found} {l : List ℕ} → f ≡ g → l ≡ record_line (found_line taken count s g) → l ≡ record_line (found_line taken count s f)
+  as_found e t = t ∙ ap (λ (x : Found). record_line (found_line taken count s x)) (sym e)
 
-  pub found_nothing : f ≡ Nothing → [] ≡ record_lines (found_line taken count s f)
-  unfolding record_lines found_line
-  found_nothing e = as_found e refl
-
-  pub found_put : (o : Operation) → f ≡ Put o → at_text s (text " put ") o.0 ++ text "\n" ≡ record_lines (found_line taken count s f)
-  unfolding record_lines record_line effect_text found_line at_text
+  pub found_put : (o : Operation) → f ≡ Put o → at_text s (text " put ") o.0 ++ text "\n" ≡ record_line (found_line taken count s f)
+  unfolding record_line effect_text found_line at_text
   found_put o e = as_found e refl
 
-  pub found_takers : (item : Operation) → f ≡ Takers item → take_text s item.0 (takers_of taken count item.0) ≡ record_lines (found_line taken count s f)
-  unfolding record_lines record_line effect_text found_line at_text take_text
+  pub found_takers : (item : Operation) → f ≡ Takers item → take_text s item.0 (takers_of taken count item.0) ≡ record_line (found_line taken count s f)
+  unfolding record_line effect_text found_line at_text take_text
   found_takers item e = as_found e (simp append_assoc)
 
-  pub found_empty : (o : Operation) → f ≡ Empty o → at_text s (text " empty by ") o.0 ++ text "\n" ≡ record_lines (found_line taken count s f)
-  unfolding record_lines record_line effect_text found_line at_text
+  pub found_empty : (o : Operation) → f ≡ Empty o → at_text s (text " empty by ") o.0 ++ text "\n" ≡ record_line (found_line taken count s f)
+  unfolding record_line effect_text found_line at_text
   found_empty o e = as_found e refl
+
+-- the pieces of the last line
+pub left_pieces : (l : List ℕ) {n : ℕ} → n ≡ length l → text "left " ++ decimal n ++ spaced l ++ text "\n" ≡ left_line l
+unfolding left_line
+left_pieces l e = ap (λ (n : ℕ). text "left " ++ decimal n ++ spaced l ++ text "\n") e

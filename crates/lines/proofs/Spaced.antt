@@ -8,11 +8,12 @@ use Rattle.basics.specs.Choice.{same}
 use Rattle.basics.specs.Text.{text, decimal}
 use Rattle.basics.proofs.Choice.{pick_then, pick_else, equal_same, unequal_same}
 use Rattle.rows.specs.Operations.{cells}
-use Rattle.rows.specs.Operations.Column.{Taken}
+use Rattle.rows.specs.declared.OpColumn.TheVariants.{Taken}
 use Rattle.machine.specs.Effects.{numbers, sift}
 use Rattle.wording.specs.Report.{spaced}
 use Rattle.machine.proofs.Lists.{sift_append}
-use Rattle.text.specs.Laid.{Wrote}
+use Rattle.text.specs.declared.Page.{Page}
+use Rattle.text.specs.Pages.{Wrote}
 use Rattle.text.proofs.Rest.{Rest, rest_none}
 use Rattle.text.proofs.Each.{each_to}
 use Rattle.lines.specs.Members.{takers_of}
@@ -59,16 +60,12 @@ taker_in ops o {item} e h = member_in (took ops item) o (equal_same (sym e ∙ h
 pub taker_out : (ops : List ℕ) (o : ℕ) {n item : ℕ} → n ≡ cells ops Taken o → n ≢ item → member (took ops item) o ≡ []
 taker_out ops o {item} e h = member_out (took ops item) o (unequal_same (λ z. h (e ∙ z)))
 
--- equal lists are written alike
-pub spaced_same : {before after whole l m : List ℕ} {at place : ℕ} → m ≡ l → Rest before after at place (spaced l) whole → Rest before after at place (spaced m) whole
-spaced_same {before} {after} {whole} {l} {m} {at} {place} e r = subst (λ (x : List ℕ). Rest before after at place (spaced x) whole) (sym e) r
-
 -- a list of which the first number is to be written next
-pub spaced_first : {before after whole l : List ℕ} {at place x : ℕ} {rest : List ℕ} → l ≡ x ∷ rest → Rest before after at place (spaced l) whole → Rest before after at place (text " " ++ decimal x ++ spaced rest) whole
+pub spaced_first : {p q : Page} {whole l : List ℕ} {x : ℕ} {rest : List ℕ} → l ≡ x ∷ rest → Rest p q (spaced l) whole → Rest p q (text " " ++ decimal x ++ spaced rest) whole
 unfolding spaced
-spaced_first {before} {after} {whole} {l} {at} {place} {x} {rest} e r = subst (λ (m : List ℕ). Rest before after at place (spaced m) whole) e r
+spaced_first {p} {q} {whole} e r = subst (λ (m : List ℕ). Rest p q (spaced m) whole) e r
 
 -- one of which nothing is left to write
-pub spaced_none : {before after whole l : List ℕ} {at place : ℕ} → l ≡ [] → Rest before after at place (spaced l) whole → Wrote before after at place whole
+pub spaced_none : {p q : Page} {whole l : List ℕ} → l ≡ [] → Rest p q (spaced l) whole → Wrote p q whole
 unfolding spaced
-spaced_none {before} {after} {whole} {l} {at} {place} e r = rest_none (subst (λ (m : List ℕ). Rest before after at place (spaced m) whole) e r)
+spaced_none {p} {q} {whole} e r = rest_none (subst (λ (m : List ℕ). Rest p q (spaced m) whole) e r)

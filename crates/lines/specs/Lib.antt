@@ -2,3 +2,5 @@
 pub mod Told
 pub mod Members
 pub mod Lines
+pub mod Rows
+pub mod Walks

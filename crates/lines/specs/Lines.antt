@@ -1,16 +1,15 @@
 -- The line that was found for a step.
-use Rattle.std.specs.Prelude.{ℕ, List, [], ◌∷◌, ◌++◌}
+use Rattle.std.specs.Prelude.{ℕ, List, ◌++◌}
 use Rattle.basics.specs.Text.{text, decimal}
 use Rattle.machine.specs.Multiplicity.Line.{put, takes, empty}
 use Rattle.machine.specs.Record.{Recorded}
 use Rattle.wording.specs.Report.{spaced}
 use Rattle.lines.specs.declared.Found.{Found}
-use Rattle.lines.specs.declared.Found.TheVariants.{Nothing, Put, Takers, Empty}
+use Rattle.lines.specs.declared.Found.TheVariants.{Put, Takers, Empty}
 use Rattle.lines.specs.Members.{takers_of}
 
--- the operation or the item that was found, 0 where there is none
+-- the operation or the item that was found
 unfoldable pub member : Found → ℕ
-member Nothing = 0
 member (Put o) = o.0
 member (Takers item) = item.0
 member (Empty o) = o.0
@@ -23,9 +22,8 @@ at_text s label o = text "at " ++ decimal s ++ (label ++ decimal o)
 unfoldable pub take_text : ℕ → ℕ → List ℕ → List ℕ
 take_text s item takers = at_text s (text " take ") item ++ text " by" ++ spaced takers ++ text "\n"
 
--- the line of a step, if there is one, by what was found, the operations' items and their count
-unfoldable pub found_line : (ℕ → ℕ) → ℕ → ℕ → Found → List Recorded
-found_line taken count s Nothing = []
-found_line taken count s (Put o) = record { step = s; line = put o.0 } ∷ []
-found_line taken count s (Takers item) = record { step = s; line = takes item.0 (takers_of taken count item.0) } ∷ []
-found_line taken count s (Empty o) = record { step = s; line = empty o.0 } ∷ []
+-- the line of a step, by what was found, the operations' items and their count
+unfoldable pub found_line : (ℕ → ℕ) → ℕ → ℕ → Found → Recorded
+found_line taken count s (Put o) = record { step = s; line = put o.0 }
+found_line taken count s (Takers item) = record { step = s; line = takes item.0 (takers_of taken count item.0) }
+found_line taken count s (Empty o) = record { step = s; line = empty o.0 }

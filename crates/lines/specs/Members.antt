@@ -1,13 +1,14 @@
 -- The takers of an item and the items that are left, as the rows that hold a run's outcome say them.
 use Rattle.std.specs.Prelude.{ℕ, zero, suc, ◌+◌, ◌≤◌, ◌<◌, Bool, true, List}
 use Rattle.basics.specs.Choice.{pick, same}
-use Rattle.basics.specs.Maps.{at}
-use Rattle.rows.specs.Rows.{column, HasRows}
+use Rattle.rows.specs.Rows.{HasRows, cells_of}
 use Rattle.rows.specs.Operations.{HasOps, cells}
-use Rattle.rows.specs.Operations.Column.{Taken}
+use Rattle.rows.specs.declared.OpColumn.TheVariants.{Taken}
 use Rattle.rows.specs.Nodes.{HasNodes, nexts, marks, uppers}
 use Rattle.job.specs.declared.Kind.{Kind}
 use Rattle.job.specs.declared.Kind.TheVariants.{Queue, Stack, TwoWay}
+use Rattle.lines.specs.declared.BoundColumn.{BoundColumn}
+use Rattle.lines.specs.declared.BoundColumn.TheVariants.{Skip, Beyond}
 use Rattle.machine.specs.Effects.{numbers, sift}
 use Rattle.machine.specs.Left.{walk}
 
@@ -15,26 +16,35 @@ use Rattle.machine.specs.Left.{walk}
 unfoldable pub takers_of : (ℕ → ℕ) → ℕ → ℕ → List ℕ
 takers_of taken count item = sift (λ o. same (taken o) item) (numbers count)
 
--- how many columns an item's row of bounds has, and that a list has the rows of items up to item `n`
+-- the cell of each column of an item's row of bounds
+abbrev pub bound_number : BoundColumn → ℕ
+bound_number Skip = 0
+bound_number Beyond = 1
+
+-- how many columns it has, and that a list has the rows of items up to item `n`
 abbrev pub bound_width : ℕ
 bound_width = 2
 
 abbrev pub HasBounds : ℕ → List ℕ → Type 0
 HasBounds n l = HasRows bound_width n l
 
+-- what some rows hold: a map for each column
+abbrev pub bound_cells : List ℕ → BoundColumn → ℕ → ℕ
+bound_cells l = cells_of bound_number bound_width l
+
 -- every operation's item has a row, and bounds may be stored: none is past `count` yet
 pub record Unbounded (ops bounds : List ℕ) (count : ℕ) : Type 0 where
   pub has_ops : HasOps count ops
   pub has_bounds : HasBounds count bounds
   pub items : (o : ℕ) → 1 ≤ o → o ≤ count → cells ops Taken o ≤ count
-  pub small : (i : ℕ) → at bounds i ≤ count
+  pub small : (f : BoundColumn) (i : ℕ) → bound_cells bounds f i ≤ count
 
 -- how many operations come before an item's first taker, and how many behind its last
 abbrev pub skips : List ℕ → ℕ → ℕ
-skips l = column bound_width 0 (at l)
+skips l = bound_cells l Skip
 
 abbrev pub beyonds : List ℕ → ℕ → ℕ
-beyonds l = column bound_width 1 (at l)
+beyonds l = bound_cells l Beyond
 
 -- where the takers of each item are: behind the operations that its row skips, and not among those beyond
 pub record Bounds (ops bounds : List ℕ) (count : ℕ) : Type 0 where
@@ -42,7 +52,7 @@ pub record Bounds (ops bounds : List ℕ) (count : ℕ) : Type 0 where
   pub has_bounds : HasBounds count bounds
   pub from : (o : ℕ) → 1 ≤ o → o ≤ count → skips bounds (cells ops Taken o) < o
   pub to : (o : ℕ) → 1 ≤ o → o ≤ count → o + beyonds bounds (cells ops Taken o) ≤ count
-  pub small : (i : ℕ) → at bounds i ≤ count
+  pub small : (f : BoundColumn) (i : ℕ) → bound_cells bounds f i ≤ count
 
 -- the uppermost node from node i up through the uppers, by at most `count` of them
 unfoldable pub climb : (ℕ → ℕ) → ℕ → ℕ → ℕ
@@ -73,6 +83,11 @@ pub record NodesThere (nodes : List ℕ) (count node : ℕ) : Type 0 where
   pub has_nodes : HasNodes count nodes
   pub within : (i : ℕ) → nexts nodes i ≤ count
   pub first : node ≤ count
+
+-- a node has a row, and so has every next
+pub record FromHere (nodes : List ℕ) (node : ℕ) : Type 0 where
+  pub here : HasNodes node nodes
+  pub next : (i : ℕ) → HasNodes (nexts nodes i) nodes
 
 -- the nodes 0 to `count` have rows, and every upper is one of them
 pub record UppersThere (nodes : List ℕ) (count : ℕ) : Type 0 where

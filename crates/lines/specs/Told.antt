@@ -3,7 +3,7 @@ use Rattle.std.specs.Prelude.{ℕ, List, ◌++◌}
 use Rattle.basics.specs.Choice.{pick, same}
 use Rattle.basics.specs.Text.{text, decimal}
 use Rattle.rows.specs.Operations.{HasOps, Cells, cells, dropped_mark}
-use Rattle.rows.specs.Operations.Column.{First, Last, Link, Taken}
+use Rattle.rows.specs.declared.OpColumn.TheVariants.{First, Last, Link, Taken}
 use Rattle.job.specs.Stream.{HasRecord}
 use Rattle.job.specs.Job.{Job}
 use Rattle.machine.specs.Notes.{Answer}

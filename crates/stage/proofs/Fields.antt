@@ -5,9 +5,10 @@ use Prim.Native.Nat.{ℕ, suc, ◌-◌, ◌≤◌, ◌<◌}
 use native.Mathlib.Omega.{arith}
 use lib.Dec.{leb→le, le→leb}
 use lib.IntN.{ℤ, pos, negsuc, ◌-ℤ◌}
-use lib.Signed.{◌≤ℤ◌}
+use lib.Signed.{◌≤ℤ◌, mag}
 use mir.Syntax.{w16}
-use mir.Val.{to_z}
+use mir.Val.{to_z, of_z}
+use Rattle.std.proofs.Math.Facts.{to_z-of_z}
 use mir.ValLaws.{to_z_pos, to_z-neg}
 use Rattle.basics.specs.Choice.{less}
 use Rattle.basics.proofs.Choice.{both, pick_then, pick_else, less_lt, less_le, lt_less, le_less}
@@ -63,3 +64,7 @@ as_i16 field high =
     (λ h.
     let back : field ≡ 65536 - suc (65535 - field) = omega arith in
     ap (to_z w16) back ∙ to_z-neg w16 (65535 - field) (let near : 65535 - field < 32768 = omega arith in near))
+
+-- an i16 that is passed on is the same number
+pub held : {z : ℤ} → mag z < 32768 → to_z w16 (of_z w16 z) ≡ z
+held {z} h = to_z-of_z {w = w16} {z = z} (record { sfits = h })

@@ -1,13 +1,8 @@
 -- The text of a stage. Document 02, request 2: "A `-` leads a printed negative; zero prints without one."
-use Rattle.std.specs.Prelude.{ℕ, suc, Bool, true, false, List, ◌++◌, ℤ, pos, negsuc}
+use Rattle.std.specs.Prelude.{ℕ, suc, List, ◌++◌, ℤ, pos, negsuc}
 use Rattle.basics.specs.Text.{text, decimal}
 use Rattle.stage.specs.Millimetres.{millimetres}
 use Rattle.stage.specs.Centimetres.{centimetres}
-
--- is a whole number below zero?
-unfoldable pub is_negative : ℤ → Bool
-is_negative (pos n) = false
-is_negative (negsuc n) = true
 
 -- a whole number in decimal (`negsuc n` is −(n + 1), so zero has no sign)
 unfoldable pub signed_decimal : ℤ → List ℕ

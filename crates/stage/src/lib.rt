@@ -1,61 +1,56 @@
 // What a report prints of a stage.
 #![tactic(auto)]
 
-ghost use Rattle.std.specs.Prelude.{◌≡◌, ◌++◌, ◌+◌, ◌≤◌, length, nat_abs};
-ghost use Rattle.text.specs.Laid.{Wrote};
+ghost use Rattle.std.specs.Prelude.{◌≡◌, ◌++◌};
+ghost use Rattle.text.specs.Pages.{HasRoom, Wrote};
 ghost use Rattle.stage.specs.Millimetres.{millimetres};
 ghost use Rattle.stage.specs.Centimetres.{nearest, centimetres};
-ghost use Rattle.stage.specs.Printed.{is_negative, stage_text};
+ghost use Rattle.stage.specs.Printed.{signed_decimal, stage_text};
 
-use text::{put_bytes, put_labelled};
+use text::Page;
 
-// Is a stage below the datum?
-fn is_below(field: u16) -> bool
-    ensures { result ≡ is_negative (millimetres field) }
+// What a field says: a number in two's complement.
+fn millimetres(field: u16) -> i16
+    ensures { result ≡ millimetres field }
 {
-    32768 <= field as u32
-}
-
-// How many mm a stage is above or below the datum.
-fn distance(field: u16) -> u16
-    ensures { result ≡ nat_abs (millimetres field) }
-{
-    if is_below(field) {
-        return (65536 - field as u32) as u16;
-    }
-    field
+    field.cast_signed()
 }
 
 // Whole centimetres of a distance: the nearest; half way between two, down to an even one and up from an odd one.
 fn nearest(mm: u16) -> u16
     ensures { result ≡ nearest mm }
 {
-    if mm / 10 % 2 == 0 {
-        return ((mm as u32 + 4) / 10) as u16;
-    }
-    ((mm as u32 + 5) / 10) as u16
+    let mm = mm as u32;
+    let half = 4 + mm / 10 % 2;
+    ((mm + half) / 10) as u16
 }
 
-// Is the printed number of a stage negative? Not where it is nought.
-fn is_negative(field: u16, cm: u16) -> bool
-    requires { cm ≡ nat_abs (centimetres (millimetres field)) }
-    ensures { result ≡ is_negative (centimetres (millimetres field)) }
+// Whole centimetres of a stage: of one below the datum as of one as far above it.
+fn centimetres(mm: i16) -> i16
+    ensures { result ≡ centimetres mm }
 {
-    if is_below(field) {
-        return 0 < cm;
+    let cm = nearest(mm.unsigned_abs()) as i16;
+    if mm.is_negative() { -cm } else { cm }
+}
+
+// The bytes of a text and a whole number in decimal: a `-` leads a negative one.
+fn put_signed(page: &mut Page, label: &[u8], n: i16)
+    requires { HasRoom page.old (label.now ++ signed_decimal n) }
+    ensures { Wrote page.old page.new (label.now ++ signed_decimal n) }
+{
+    let digits = n.unsigned_abs();
+    if n.is_negative() {
+        page.put_bytes(label);
+        page.put_labelled(b"-", digits);
+    } else {
+        page.put_labelled(label, digits);
     }
-    false
 }
 
 // The bytes of a text and a stage in whole centimetres.
-pub fn put_stage(out: &mut [u8], at: usize, label: &[u8], field: u16) -> usize
-    requires { at + length (label.now ++ stage_text field) ≤ length out.old }
-    ensures { Wrote out.old out.new at result (label.now ++ stage_text field) }
+pub fn put_stage(page: &mut Page, label: &[u8], field: u16)
+    requires { HasRoom page.old (label.now ++ stage_text field) }
+    ensures { Wrote page.old page.new (label.now ++ stage_text field) }
 {
-    let cm = nearest(distance(field));
-    if is_negative(field, cm) {
-        let next = put_bytes(out, at, label);
-        return put_labelled(out, next, b"-", cm);
-    }
-    put_labelled(out, at, label, cm)
+    put_signed(page, label, centimetres(millimetres(field)));
 }

@@ -1,5 +1,6 @@
--- Laws of laying bytes, and of the functions that lay them.
+-- Laws of laying bytes, and of the functions that write them on a page.
 pub mod Laid
+pub mod Pages
 pub mod Digits
 pub mod Each
 pub mod Rest

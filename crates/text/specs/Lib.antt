@@ -1,2 +1,3 @@
 -- Text written into lent memory.
 pub mod Laid
+pub mod Pages

@@ -1,63 +1,70 @@
-// Text written front to back into lent memory: bytes, and numbers in decimal. Each function gives the place behind what it wrote.
+// Text written on a page, front to back: bytes, and numbers in decimal.
 #![tactic(auto)]
 
-ghost use Rattle.std.specs.Prelude.{◌≡◌, ◌++◌, ◌+◌, ◌≤◌, length};
+ghost use Rattle.std.specs.Prelude.{◌≡◌, ◌≤◌, [], ◌∷◌, ◌++◌, length, take};
 ghost use Rattle.basics.specs.Text.{decimal};
-ghost use Rattle.text.specs.Laid.{Wrote};
 
-// The bytes of a text.
-pub fn put_bytes(out: &mut [u8], at: usize, s: &[u8]) -> usize
-    requires { at + length s.now ≤ length out.old }
-    ensures { Wrote out.old out.new at result s.now }
-{
-    let mut j = 0;
-    while j < s.len() {
-        out[at + j] = s[j];
-        j += 1;
-    }
-    at + j
+// Lent memory that is written from its front on.
+pub struct Page<'a> {
+    memory: &'a mut [u8],
+    // where the next byte goes
+    at: usize,
 }
 
-// How many digits a number has.
-fn width(n: u16) -> usize
-    ensures { result ≡ length (decimal n) }
-{
-    if n < 10 {
-        return 1;
-    }
-    if n < 100 {
-        return 2;
-    }
-    if n < 1000 {
-        return 3;
-    }
-    if n < 10000 {
-        return 4;
-    }
-    5
-}
+impl<'a> Page<'a> {
+    ghost use Rattle.text.specs.Pages.{Opens, HasRoom, Wrote};
 
-// A number in decimal, from its last digit to its first.
-fn put_decimal(out: &mut [u8], at: usize, n: u16) -> usize
-    requires { at + length (decimal n) ≤ length out.old }
-    ensures { Wrote out.old out.new at result (decimal n) }
-{
-    let end = at + width(n);
-    let mut i = end;
-    let mut rest = n;
-    while at < i {
-        i -= 1;
-        out[i] = 48 + (rest % 10) as u8;
-        rest = rest / 10;
+    // A page on which nothing stands.
+    pub fn new(memory: &'a mut [u8]) -> Page<'a>
+        ensures { Opens memory.entry result }
+    {
+        Page { memory, at: 0 }
     }
-    end
-}
 
-// The bytes of a text and a number in decimal.
-pub fn put_labelled(out: &mut [u8], at: usize, label: &[u8], n: u16) -> usize
-    requires { at + length (label.now ++ decimal n) ≤ length out.old }
-    ensures { Wrote out.old out.new at result (label.now ++ decimal n) }
-{
-    let next = put_bytes(out, at, label);
-    put_decimal(out, next, n)
+    // The bytes that stand on it.
+    pub fn written(&self) -> &[u8]
+        requires { self.now.at ≤ length self.now.memory.now }
+        ensures { result.now ≡ take self.now.at self.now.memory.now }
+    {
+        &self.memory[..self.at]
+    }
+
+    // The bytes of a text.
+    pub fn put_bytes(&mut self, s: &[u8])
+        requires { HasRoom self.old s.now }
+        ensures { Wrote self.old self.new s.now }
+    {
+        let end = self.at + s.len();
+        self.memory[self.at..end].copy_from_slice(s);
+        self.at = end;
+    }
+
+    // One byte.
+    fn put_byte(&mut self, b: u8)
+        requires { HasRoom self.old (b ∷ []) }
+        ensures { Wrote self.old self.new (b ∷ []) }
+    {
+        self.memory[self.at] = b;
+        self.at += 1;
+    }
+
+    // A number in decimal: the digits of its tenth, and its last.
+    fn put_decimal(&mut self, n: u16)
+        requires { HasRoom self.old (decimal n) }
+        ensures { Wrote self.old self.new (decimal n) }
+    {
+        if 10 <= n {
+            self.put_decimal(n / 10);
+        }
+        self.put_byte(48 + (n % 10) as u8);
+    }
+
+    // The bytes of a text and a number in decimal.
+    pub fn put_labelled(&mut self, label: &[u8], n: u16)
+        requires { HasRoom self.old (label.now ++ decimal n) }
+        ensures { Wrote self.old self.new (label.now ++ decimal n) }
+    {
+        self.put_bytes(label);
+        self.put_decimal(n);
+    }
 }

@@ -3,8 +3,5 @@ use native.Mathlib.Omega.{arith}
 use Rattle.stage.proofs.Rounding.{by_parity}
 use Rattle.stage.proofs.nearest.Goals as goal
 
-pub returns-then-mm-eq0 : goal.returns-then-mm-eq0
-returns-then-mm-eq0 c = omega (arith, by_parity c.args.mm)
-
 pub returns : goal.returns
 returns c = omega (arith, by_parity c.args.mm)
