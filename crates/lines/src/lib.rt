@@ -18,7 +18,7 @@ ghost use Rattle.lines.specs.Members as Members;
 ghost use Rattle.lines.specs.Members.{Unbounded, Bounds, stays, left_from, NodesThere, FromHere};
 ghost use Rattle.lines.specs.Lines.{at_text};
 
-use job::{Kind, Operation, Step, is_put, owner, value};
+use job::{Kind, Operation, Step, Stream};
 use rows::{Column, NodeColumn, OpColumn, cell, store};
 use stage::put_stage;
 use text::Page;
@@ -60,18 +60,18 @@ fn put_spaced(page: &mut Page, n: u16)
 }
 
 // `item` with its number and its value.
-fn put_item(page: &mut Page, stream: &[u8], item: Operation)
+fn put_item(page: &mut Page, stream: &Stream, item: Operation)
     requires { HasRecord stream.now item.0 × HasRoom page.old (answer_text (job_of stream.now) (Answer.item item.0)) }
     ensures { Wrote page.old page.new (answer_text (job_of stream.now) (Answer.item item.0)) }
 {
     page.put_labelled(b" item ", item.0);
-    put_stage(page, b" value ", value(stream, item));
+    put_stage(page, b" value ", stream.value(item));
 }
 
 // An operation with its row, and the stream that has its record and its item's.
 #[derive(Clone, Copy)]
 struct Row<'a> {
-    stream: &'a [u8],
+    stream: &'a Stream<'a>,
     ops: &'a [u16],
     o: Operation,
     ghost in_stream: { InStream stream.now ops.now o.0 },
@@ -92,8 +92,8 @@ impl Row<'_> {
         requires { HasRoom page.old (action_of self.now) }
         ensures { Wrote page.old page.new (action_of self.now) }
     {
-        if is_put(self.stream, self.o) {
-            put_stage(page, b" put ", value(self.stream, self.o));
+        if self.stream.is_put(self.o) {
+            put_stage(page, b" put ", self.stream.value(self.o));
         } else {
             page.put_bytes(b" take");
         }
@@ -148,7 +148,7 @@ impl Row<'_> {
         ensures { Wrote page.old page.new (front_of self.now) }
     {
         page.put_labelled(b"op ", self.o.0);
-        let p = owner(self.stream, self.o);
+        let p = self.stream.owner(self.o);
         page.put_labelled(b" process ", p.0 as u16);
         self.put_action(page);
     }
@@ -165,7 +165,7 @@ impl Row<'_> {
 }
 
 // The line of an operation, by its row.
-pub fn operation_line(page: &mut Page, stream: &[u8], ops: &[u16], o: Operation)
+pub fn operation_line(page: &mut Page, stream: &Stream, ops: &[u16], o: Operation)
     requires { InStream stream.now ops.now o.0 × HasRoom page.old (line_told (job_of stream.now) (cells ops.now) o.0) }
     ensures { Wrote page.old page.new (line_told (job_of stream.now) (cells ops.now) o.0) }
 {
