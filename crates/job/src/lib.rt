@@ -14,15 +14,15 @@ use block::Checked;
 use memory::word_at;
 
 // An operation's number; operations count from 1, and 0 is none.
-#[derive(Clone, Copy)]
+#[derive(Clone, Copy, Debug, PartialEq, Eq, PartialOrd, Ord)]
 pub struct Operation(pub u16);
 
 // A step's number; steps count from 1.
-#[derive(Clone, Copy)]
+#[derive(Clone, Copy, Debug, PartialEq, Eq, PartialOrd, Ord)]
 pub struct Step(pub u16);
 
 // A process's number; processes count from 0.
-#[derive(Clone, Copy)]
+#[derive(Clone, Copy, Debug, PartialEq, Eq, PartialOrd, Ord)]
 pub struct Process(pub u8);
 
 // What the schedule names for a step: a process that steps, or one that drops its begun operation.

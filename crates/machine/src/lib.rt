@@ -5,7 +5,7 @@ use job::{Operation, Step};
 
 // Where an operation stands: at one of the 36 rows of the listings, or ended, with done, with item n, with item t,
 // or with empty.
-#[derive(Clone, Copy)]
+#[derive(Clone, Copy, Debug, PartialEq, Eq)]
 pub enum Row {
     Q1,
     Q2,
@@ -50,7 +50,7 @@ pub enum Row {
 }
 
 // What a row does to shared memory: one read, one write or one compare-and-set.
-#[derive(Clone, Copy)]
+#[derive(Clone, Copy, Debug, PartialEq, Eq)]
 pub enum Access {
     ReadHead,
     ReadTail,
@@ -76,7 +76,7 @@ pub enum Access {
 }
 
 // How an access came out: by it a row chooses its successor. Bare: the object was found empty, which ends a take.
-#[derive(Clone, Copy)]
+#[derive(Clone, Copy, Debug, PartialEq, Eq)]
 pub enum Outcome {
     Yes,
     No,
@@ -84,7 +84,7 @@ pub enum Outcome {
 }
 
 // A row of the step table: the access, the successor if it succeeds, and if not.
-#[derive(Clone, Copy)]
+#[derive(Clone, Copy, Debug, PartialEq, Eq)]
 pub struct Entry {
     pub access: Access,
     pub yes: Row,
@@ -93,7 +93,7 @@ pub struct Entry {
 
 // The place of one process: the operation in hand, its registers, which hold nodes, and the row where it stands. The row is last: right
 // behind the operation, compiled code would load the two at once that it stored one by one, and wait.
-#[derive(Clone, Copy)]
+#[derive(Clone, Copy, Debug, PartialEq, Eq)]
 pub struct Place {
     pub operation: Operation,
     pub h: u16,
@@ -103,7 +103,7 @@ pub struct Place {
 }
 
 // What a step was for the record.
-#[derive(Clone, Copy)]
+#[derive(Clone, Copy, Debug, PartialEq, Eq)]
 pub enum Event {
     // none of those below
     Quiet,
@@ -121,7 +121,7 @@ pub enum Event {
 
 // What a run leaves beside the lent memory: the object's cells, a step behind which every step of the schedule is idle, and how many
 // rounds were lost.
-#[derive(Clone, Copy)]
+#[derive(Clone, Copy, Debug, PartialEq, Eq)]
 pub struct Finish {
     pub head: u16,
     pub tail: u16,
