@@ -11,7 +11,7 @@ ghost use Rattle.access.specs.View.{Does, DoesAlone, answered};
 
 use job::Operation;
 use machine::{Event, Outcome};
-use rows::{MARK, NEXT, NODES, UPPER, cell, store};
+use rows::{NodeColumn, cell, store};
 
 // no node
 const NONE: u16 = 0;
@@ -112,7 +112,7 @@ pub fn read_next_of_h(mut c: Scalars, nodes: &[u16]) -> Accessed
     requires { HasNodes c.h nodes.now }
     ensures { (own : ℕ) → Does ReadNextOfH own c nodes.now result nodes.now }
 {
-    c.n = cell(nodes, NODES, c.h, NEXT);
+    c.n = cell(nodes, c.h, NodeColumn::Next);
     if c.h != c.t {
         return answer(c, Outcome::Yes, Event::Quiet);
     }
@@ -127,7 +127,7 @@ pub fn read_next_of_t(mut c: Scalars, nodes: &[u16]) -> Accessed
     requires { HasNodes c.t nodes.now }
     ensures { (own : ℕ) → Does ReadNextOfT own c nodes.now result nodes.now }
 {
-    c.n = cell(nodes, NODES, c.t, NEXT);
+    c.n = cell(nodes, c.t, NodeColumn::Next);
     let outcome = yes_if_same(c.n, NONE);
     answer(c, outcome, Event::Quiet)
 }
@@ -137,8 +137,8 @@ pub fn link_own(own: Operation, c: Scalars, nodes: &mut [u16]) -> Accessed
     requires { HasNodes c.t nodes.old }
     ensures { Does Link own.0 c nodes.old result nodes.new }
 {
-    if cell(nodes, NODES, c.t, NEXT) == NONE {
-        store(nodes, NODES, c.t, NEXT, own.0);
+    if cell(nodes, c.t, NodeColumn::Next) == NONE {
+        store(nodes, c.t, NodeColumn::Next, own.0);
         return answer(c, Outcome::Yes, Event::Linked);
     }
     answer(c, Outcome::No, Event::Quiet)
@@ -198,7 +198,7 @@ pub fn read_mark(c: Scalars, nodes: &[u16]) -> Accessed
     requires { HasNodes c.t nodes.now }
     ensures { (own : ℕ) → Does ReadMark own c nodes.now result nodes.now }
 {
-    let outcome = yes_if_same(cell(nodes, NODES, c.t, MARK), CLEAR);
+    let outcome = yes_if_same(cell(nodes, c.t, NodeColumn::Mark), CLEAR);
     answer(c, outcome, Event::Quiet)
 }
 
@@ -209,7 +209,7 @@ pub fn push(own: Operation, mut c: Scalars, nodes: &mut [u16]) -> Accessed
 {
     if c.top == c.t {
         c.top = own.0;
-        store(nodes, NODES, own.0, NEXT, c.t);
+        store(nodes, own.0, NodeColumn::Next, c.t);
         return answer(c, Outcome::Yes, Event::Linked);
     }
     answer(c, Outcome::No, Event::Quiet)
@@ -220,7 +220,7 @@ pub fn raise_mark(c: Scalars, nodes: &mut [u16]) -> Accessed
     requires { HasNodes c.t nodes.old }
     ensures { (own : ℕ) → Does RaiseMark own c nodes.old result nodes.new }
 {
-    store(nodes, NODES, c.t, MARK, RAISED);
+    store(nodes, c.t, NodeColumn::Mark, RAISED);
     answer(c, Outcome::Yes, Event::Raised(c.t))
 }
 
@@ -230,7 +230,7 @@ pub fn top_to_next(mut c: Scalars, nodes: &[u16]) -> Accessed
     ensures { (own : ℕ) → Does TopToNext own c nodes.now result nodes.now }
 {
     let outcome = yes_if_same(c.top, c.t);
-    c.top = set_from_to(c.top, c.t, cell(nodes, NODES, c.t, NEXT));
+    c.top = set_from_to(c.top, c.t, cell(nodes, c.t, NodeColumn::Next));
     answer(c, outcome, Event::Quiet)
 }
 
@@ -239,7 +239,7 @@ pub fn read_upper(mut c: Scalars, nodes: &[u16]) -> Accessed
     requires { HasNodes c.t nodes.now }
     ensures { (own : ℕ) → Does ReadUpper own c nodes.now result nodes.now }
 {
-    c.n = cell(nodes, NODES, c.t, UPPER);
+    c.n = cell(nodes, c.t, NodeColumn::Upper);
     let outcome = yes_if_same(c.n, NONE);
     answer(c, outcome, Event::Quiet)
 }
@@ -249,7 +249,7 @@ pub fn read_upper_to_take(mut c: Scalars, nodes: &[u16]) -> Accessed
     requires { HasNodes c.t nodes.now }
     ensures { (own : ℕ) → Does ReadUpperToTake own c nodes.now result nodes.now }
 {
-    c.n = cell(nodes, NODES, c.t, UPPER);
+    c.n = cell(nodes, c.t, NodeColumn::Upper);
     if c.n != NONE {
         return answer(c, Outcome::No, Event::Round);
     }
@@ -264,14 +264,14 @@ pub fn link_above(own: Operation, c: Scalars, nodes: &mut [u16]) -> Accessed
     requires { HasNodes c.t nodes.old × HasNodes own.0 nodes.old }
     ensures { Does LinkAbove own.0 c nodes.old result nodes.new }
 {
-    if cell(nodes, NODES, c.t, UPPER) != NONE {
+    if cell(nodes, c.t, NodeColumn::Upper) != NONE {
         return answer(c, Outcome::No, Event::Quiet);
     }
-    if cell(nodes, NODES, c.t, MARK) != LIVE {
+    if cell(nodes, c.t, NodeColumn::Mark) != LIVE {
         return answer(c, Outcome::No, Event::Quiet);
     }
-    store(nodes, NODES, c.t, UPPER, own.0);
-    store(nodes, NODES, own.0, NEXT, c.t);
+    store(nodes, c.t, NodeColumn::Upper, own.0);
+    store(nodes, own.0, NodeColumn::Next, c.t);
     answer(c, Outcome::Yes, Event::Linked)
 }
 
@@ -298,14 +298,14 @@ pub fn cut(c: Scalars, nodes: &mut [u16]) -> Accessed
     requires { HasNodes c.t nodes.old × HasNodes (nexts nodes.old c.t) nodes.old }
     ensures { (own : ℕ) → Does Cut own c nodes.old result nodes.new }
 {
-    let lower = cell(nodes, NODES, c.t, NEXT);
-    if cell(nodes, NODES, lower, UPPER) != c.t {
+    let lower = cell(nodes, c.t, NodeColumn::Next);
+    if cell(nodes, lower, NodeColumn::Upper) != c.t {
         return answer(c, Outcome::No, Event::Quiet);
     }
-    if cell(nodes, NODES, lower, MARK) != LIVE {
+    if cell(nodes, lower, NodeColumn::Mark) != LIVE {
         return answer(c, Outcome::No, Event::Quiet);
     }
-    store(nodes, NODES, lower, UPPER, NONE);
+    store(nodes, lower, NodeColumn::Upper, NONE);
     answer(c, Outcome::Yes, Event::Quiet)
 }
 
@@ -314,8 +314,8 @@ pub fn clear_flag(c: Scalars, nodes: &mut [u16]) -> Accessed
     requires { HasNodes c.t nodes.old }
     ensures { (own : ℕ) → Does ClearFlag own c nodes.old result nodes.new }
 {
-    if cell(nodes, NODES, c.t, UPPER) == NONE {
-        store(nodes, NODES, c.t, MARK, CLEARED);
+    if cell(nodes, c.t, NodeColumn::Upper) == NONE {
+        store(nodes, c.t, NodeColumn::Mark, CLEARED);
         return answer(c, Outcome::Yes, Event::Moved(c.t));
     }
     answer(c, Outcome::No, Event::Quiet)

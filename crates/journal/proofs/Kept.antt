@@ -8,8 +8,10 @@ use Rattle.basics.specs.Choice.{pick, same}
 use Rattle.basics.specs.Maps.{upd}
 use Rattle.basics.proofs.Choice.{split, pick_then, pick_else, pick_elim, same_equal, equal_same, same_unequal, unequal_same}
 use Rattle.basics.proofs.Maps.{upd_elim, upd_id}
-use Rattle.rows.specs.Operations.{Column, Cells, stored, dropped_mark}
-use Rattle.rows.specs.Operations.Column.{First, Last, Start, Link, Taken, Stands}
+use Rattle.rows.specs.Rows.{stored_in}
+use Rattle.rows.specs.declared.OpColumn.{OpColumn}
+use Rattle.rows.specs.Operations.{Cells, stored, dropped_mark}
+use Rattle.rows.specs.declared.OpColumn.TheVariants.{First, Last, Start, Link, Taken, Stands}
 use Rattle.rows.proofs.Operations.{by_column}
 use Rattle.job.specs.Job.{Job}
 use Rattle.machine.specs.declared.Event.{Event}
@@ -74,7 +76,7 @@ module _ (j : Job) where
         (λ there. last_passes q op (λ e. there (sym e ∙ d)))
 
     pub drop_keeps : (o : ℕ) → dropped j (suc k) ≡ o → Agrees j (suc k) (stored Last o dropped_mark c)
-    unfolding stored pick same
+    unfolding stored_in pick same
     drop_keeps o d =
         by_column (λ f. (q : ℕ) → IsOperation j.count q → stored Last o dropped_mark c f q ≡ held j (suc k) f q)
         first_passes (dropped_stored o d) start_passes link_passes taken_passes stands_passes
@@ -198,14 +200,14 @@ module _ (j : Job) where
 
     -- by the event
     module _ (ends : Bool) (answers : is_answer (note j (suc k)).answer ≡ ends) where
-      abbrev Kept : Event → Column → Type 0
+      abbrev Kept : Event → OpColumn → Type 0
       Kept e f = (q : ℕ) → IsOperation j.count q → closed ends o (suc k) (noted e o (suc k) (entered o (suc k) c)) f q ≡ held j (suc k) f q
 
       quiet_item : {e : Event} → heard ≡ e → item_of e ≡ 0 → (item : ℕ) → IsOperation j.count item → c Stands item ≡ takes_at j.object (note j) j.count (suc k) item
       quiet_item e none item op = stands_kept item op (λ q. operation_some op (sym q ∙ ap item_of e ∙ none))
 
-      kept_by : (e : Event) → heard ≡ e → (f : Column) → Kept e f
-      unfolding entered noted closed stored pick same item_of is_round is_linked
+      kept_by : (e : Event) → heard ≡ e → (f : OpColumn) → Kept e f
+      unfolding entered noted closed stored_in pick same item_of is_round is_linked
       kept_by Quiet e =
           by_column (Kept Quiet) first_stored (last_stored ends answers) (start_kept (ap is_round e)) (link_kept (ap is_linked e)) (taken_kept (ap item_of e)) (quiet_item e refl)
       kept_by Round e =

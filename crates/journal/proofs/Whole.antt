@@ -18,8 +18,9 @@ use Rattle.machine.proofs.Tallies.{lost_step, lost_kept}
 use Rattle.theory.proofs.Course.{PassesIn, ActsIn, passes_by}
 use Rattle.theory.proofs.Life.{operation_some}
 use Rattle.theory.proofs.Operations.{course}
+use Rattle.rows.specs.Rows.{stored_in}
 use Rattle.rows.specs.Operations.{Cells, cells, stored, dropped_mark}
-use Rattle.rows.specs.Operations.Column.{First, Last, Start, Link, Taken, Stands}
+use Rattle.rows.specs.declared.OpColumn.TheVariants.{First, Last, Start, Link, Taken, Stands}
 use Rattle.rows.proofs.Operations.{by_column}
 use Rattle.journal.specs.Journal.{held, Agrees, Holds}
 use Rattle.journal.specs.Stored.{entered, noted, counted, closed, Stored}
@@ -27,7 +28,7 @@ use Rattle.journal.proofs.Kept.{idle_keeps, drop_keeps, acts_keep}
 
 -- a count of lost rounds leaves the rows of operations
 counted_keeps : (j : Job) (n : ℕ) (ends back : Bool) (o k : ℕ) (c : Cells) → Agrees j n (closed ends o k c) → Agrees j n (closed ends o k (counted back c))
-unfolding closed counted stored pick same
+unfolding closed counted stored_in pick same
 counted_keeps j n ends false o k c a = a
 counted_keeps j n ends true o k c a =
     by_column (λ f. (q : ℕ) → IsOperation j.count q → closed ends o k (counted true c) f q ≡ held j n f q)
@@ -35,7 +36,7 @@ counted_keeps j n ends true o k c a =
 
 -- and no other store of a step touches it
 pub first_noted : (e : Event) (o k : ℕ) (c : Cells) → noted e o k c First ≡ c First
-unfolding noted stored pick same
+unfolding noted stored_in pick same
 first_noted Quiet o k c = refl
 first_noted Round o k c = refl
 first_noted Linked o k c = refl
@@ -44,7 +45,7 @@ first_noted (Late n) o k c = refl
 first_noted (Raised t) o k c = refl
 
 count_after : (e : Event) (ends back : Bool) {o : ℕ} (k : ℕ) (c : Cells) → o ≢ 0 → closed ends o k (counted back (noted e o k (entered o k c))) First 0 ≡ c First 0 + pick back 1 0
-unfolding closed counted entered stored pick same
+unfolding closed counted entered stored_in pick same
 count_after e ends back {o} k c some = by_back back
   where
     unentered : noted e o k (entered o k c) First 0 ≡ c First 0
@@ -84,7 +85,7 @@ module _ (j : Job) where
 
   -- the store of a drop makes it that of one more step
   pub holds_drops : (k o : ℕ) {ops by ops' : List ℕ} → PassesIn (course j) k → dropped j (suc k) ≡ o → Holds j k ops by → cells ops' ≡ stored Last o dropped_mark (cells ops) → Holds j (suc k) ops' by
-  unfolding stored pick same
+  unfolding stored_in pick same
   holds_drops k o {ops} nobody d h e =
       holds_nobody k nobody h (subst (Agrees j (suc k)) (sym e) (drop_keeps j k (cells ops) nobody h.agrees o d)) (ap (λ (c : Cells). c First 0) e)
 

@@ -3,8 +3,9 @@
 use Rattle.std.specs.Prelude.{◌≡◌, ℕ, ◌≤◌, ◌<◌, List}
 use Rattle.basics.specs.Choice.{pick, same}
 use Rattle.basics.specs.Maps.{at}
-use Rattle.rows.specs.Operations.{Column, Cells, cells, dropped_mark}
-use Rattle.rows.specs.Operations.Column.{First, Last, Start, Link, Taken, Stands}
+use Rattle.rows.specs.declared.OpColumn.{OpColumn}
+use Rattle.rows.specs.Operations.{Cells, cells, dropped_mark}
+use Rattle.rows.specs.declared.OpColumn.TheVariants.{First, Last, Start, Link, Taken, Stands}
 use Rattle.job.specs.Job.{Job}
 use Rattle.machine.specs.Notes.{note}
 use Rattle.machine.specs.Journal as the
@@ -18,7 +19,7 @@ abbrev pub ending : Job → ℕ → ℕ → ℕ
 ending j k o = pick (same (drop j k o) 0) (the.last (note j) k o) dropped_mark
 
 -- what a column says of an operation after k steps
-abbrev pub held : Job → ℕ → Column → ℕ → ℕ
+abbrev pub held : Job → ℕ → OpColumn → ℕ → ℕ
 held j k First o = the.first (note j) k o
 held j k Last o = ending j k o
 held j k Start o = the.start (note j) k o
@@ -28,7 +29,7 @@ held j k Stands item = takes_at j.object (note j) j.count k item
 
 -- the rows of all operations
 abbrev pub Agrees : Job → ℕ → Cells → Type 0
-Agrees j k c = (f : Column) (o : ℕ) → IsOperation j.count o → c f o ≡ held j k f o
+Agrees j k c = (f : OpColumn) (o : ℕ) → IsOperation j.count o → c f o ≡ held j k f o
 
 -- the whole journal: `by` has who made each step, and 0 for an idle one
 pub record Holds (j : Job) (k : ℕ) (ops by : List ℕ) : Type 0 where

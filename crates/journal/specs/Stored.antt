@@ -4,7 +4,7 @@ use Rattle.std.specs.Prelude.{◌≡◌, ℕ, suc, max, ◌<◌, Bool, List}
 use Rattle.basics.specs.Choice.{pick, same}
 use Rattle.basics.specs.Maps.{at, upd}
 use Rattle.rows.specs.Operations.{HasOps, Cells, cells, stored}
-use Rattle.rows.specs.Operations.Column.{First, Last, Start, Link, Taken, Stands}
+use Rattle.rows.specs.declared.OpColumn.TheVariants.{First, Last, Start, Link, Taken, Stands}
 use Rattle.machine.specs.Journal.{item_of}
 use Rattle.machine.specs.declared.Event.{Event}
 use Rattle.machine.specs.declared.Event.TheVariants.{Quiet, Round, Linked, Moved, Late, Raised}

@@ -4,14 +4,13 @@
 ghost use Rattle.std.specs.Prelude.{◌≡◌, ◌<◌, max, true, length};
 ghost use Rattle.basics.specs.Choice.{same};
 ghost use Rattle.basics.specs.Maps.{at, upd};
-ghost use Rattle.rows.specs.Rows.{place, column};
-ghost use Rattle.rows.specs.Operations.{op_width, HasOps, cells, stored, dropped_mark};
-ghost use Rattle.rows.specs.Operations.Column.{First, Last, Taken, Stands};
+ghost use Rattle.rows.specs.Operations.{HasOps, cells, stored, dropped_mark};
+ghost use Rattle.rows.specs.declared.OpColumn.TheVariants.{First, Last, Taken, Stands};
 ghost use Rattle.journal.specs.Stored.{earlier, entered, noted, counted, closed, Countable, HasCells};
 
 use job::{Operation, Step};
 use machine::Event;
-use rows::{cell, store};
+use rows::{OpColumn, cell, store};
 
 // The step that a cell keeps: the one that it has, or k if it has none.
 fn earlier(old: u16, k: Step) -> u16
@@ -23,24 +22,22 @@ fn earlier(old: u16, k: Step) -> u16
     old
 }
 
-// Stores a step in a cell that has none yet. The cell is stored to either way, so that compiled code need not guess which.
-fn store_first(ops: &mut [u16], i: u16, f: usize, k: Step)
-    requires { (f < op_width) × HasOps i ops.old }
-    ensures { at ops.new ≡ upd (at ops.old) (place op_width i f) (earlier (column op_width f (at ops.old) i) k.0) }
+// Stores a step in a column that has none yet. The cell is stored to either way, so that compiled code need not guess which.
+fn store_first(ops: &mut [u16], i: u16, column: OpColumn, k: Step)
+    requires { HasOps i ops.old }
+    ensures { cells ops.new ≡ stored column i (earlier (cells ops.old column i) k.0) (cells ops.old) }
 {
-    let old = cell(ops, rows::OPS, i, f);
-    let first = earlier(old, k);
-    store(ops, rows::OPS, i, f, first);
+    let first = earlier(cell(ops, i, column), k);
+    store(ops, i, column, first);
 }
 
-// Stores a step in a cell whose step is not later.
-fn store_later(ops: &mut [u16], i: u16, f: usize, k: Step)
-    requires { (f < op_width) × HasOps i ops.old }
-    ensures { at ops.new ≡ upd (at ops.old) (place op_width i f) (max (column op_width f (at ops.old) i) k.0) }
+// Stores a step in a column unless a later one is there. The cell is stored to either way.
+fn store_later(ops: &mut [u16], i: u16, column: OpColumn, k: Step)
+    requires { HasOps i ops.old }
+    ensures { cells ops.new ≡ stored column i (max (cells ops.old column i) k.0) (cells ops.old) }
 {
-    if cell(ops, rows::OPS, i, f) < k.0 {
-        store(ops, rows::OPS, i, f, k.0);
-    }
+    let later = cell(ops, i, column).max(k.0);
+    store(ops, i, column, later);
 }
 
 // T5 moved Head, or W4 cleared a flag: the operation took the item, whose line stands at the first such step.
@@ -48,8 +45,8 @@ fn note_move(n: u16, o: Operation, k: Step, ops: &mut [u16])
     requires { HasOps o.0 ops.old × HasOps n ops.old }
     ensures { cells ops.new ≡ stored Stands n (earlier (cells ops.old Stands n) k.0) (stored Taken o.0 n (cells ops.old)) }
 {
-    store(ops, rows::OPS, o.0, rows::TAKEN, n);
-    store_first(ops, n, rows::STANDS, k);
+    store(ops, o.0, OpColumn::Taken, n);
+    store_first(ops, n, OpColumn::Stands, k);
 }
 
 // R3: the operation took the item, whose line stands at the latest of its takers' last rounds.
@@ -57,8 +54,8 @@ fn note_raise(t: u16, o: Operation, round: Step, ops: &mut [u16])
     requires { HasOps o.0 ops.old × HasOps t ops.old }
     ensures { cells ops.new ≡ stored Stands t (max (cells ops.old Stands t) round.0) (stored Taken o.0 t (cells ops.old)) }
 {
-    store(ops, rows::OPS, o.0, rows::TAKEN, t);
-    store_later(ops, t, rows::STANDS, round);
+    store(ops, o.0, OpColumn::Taken, t);
+    store_later(ops, t, OpColumn::Stands, round);
 }
 
 // Notes the event of step k, which operation o made.
@@ -68,12 +65,12 @@ pub fn note(event: Event, o: Operation, k: Step, ops: &mut [u16])
 {
     match event {
         Event::Quiet => {}
-        Event::Round => store(ops, rows::OPS, o.0, rows::START, k.0),
-        Event::Linked => store(ops, rows::OPS, o.0, rows::LINK, k.0),
+        Event::Round => store(ops, o.0, OpColumn::Start, k.0),
+        Event::Linked => store(ops, o.0, OpColumn::Link, k.0),
         Event::Moved(n) => note_move(n, o, k, ops),
-        Event::Late(n) => store(ops, rows::OPS, o.0, rows::TAKEN, n),
+        Event::Late(n) => store(ops, o.0, OpColumn::Taken, n),
         Event::Raised(t) => {
-            let round = Step(cell(ops, rows::OPS, o.0, rows::START));
+            let round = Step(cell(ops, o.0, OpColumn::Start));
             note_raise(t, o, round, ops)
         }
     }
@@ -84,8 +81,8 @@ pub fn count_lost(ops: &mut [u16])
     requires { Countable ops.old }
     ensures { cells ops.new ≡ counted true (cells ops.old) }
 {
-    let lost = cell(ops, rows::OPS, 0, rows::FIRST);
-    store(ops, rows::OPS, 0, rows::FIRST, lost + 1);
+    let lost = cell(ops, 0, OpColumn::First);
+    store(ops, 0, OpColumn::First, lost + 1);
 }
 
 // How many rounds are lost?
@@ -93,7 +90,7 @@ pub fn lost_rounds(ops: &[u16]) -> u16
     requires { HasOps 0 ops.now }
     ensures { result ≡ cells ops.now First 0 }
 {
-    cell(ops, rows::OPS, 0, rows::FIRST)
+    cell(ops, 0, OpColumn::First)
 }
 
 // Enters step k, made by operation o.
@@ -102,7 +99,7 @@ pub fn enter(o: Operation, k: Step, ops: &mut [u16], by: &mut [u16])
     ensures ops_after { cells ops.new ≡ entered o.0 k.0 (cells ops.old) }
     ensures by_after { at by.new ≡ upd (at by.old) k.0 o.0 }
 {
-    store_first(ops, o.0, rows::FIRST, k);
+    store_first(ops, o.0, OpColumn::First, k);
     by[k.0 as usize] = o.0;
 }
 
@@ -111,7 +108,7 @@ pub fn is_waiting(o: Operation, ops: &[u16]) -> bool
     requires { HasOps o.0 ops.now }
     ensures { result ≡ same (cells ops.now First o.0) 0 }
 {
-    cell(ops, rows::OPS, o.0, rows::FIRST) == 0
+    cell(ops, o.0, OpColumn::First) == 0
 }
 
 // Enters that operation o was dropped.
@@ -119,7 +116,7 @@ pub fn enter_drop(o: Operation, ops: &mut [u16])
     requires { HasOps o.0 ops.old }
     ensures { cells ops.new ≡ stored Last o.0 dropped_mark (cells ops.old) }
 {
-    store(ops, rows::OPS, o.0, rows::LAST, rows::DROPPED);
+    store(ops, o.0, OpColumn::Last, rows::DROPPED);
 }
 
 // Enters step k as the last of operation o, if it ended there.
@@ -128,6 +125,6 @@ pub fn enter_end(ends: bool, o: Operation, k: Step, ops: &mut [u16])
     ensures { cells ops.new ≡ closed ends o.0 k.0 (cells ops.old) }
 {
     if ends {
-        store(ops, rows::OPS, o.0, rows::LAST, k.0);
+        store(ops, o.0, OpColumn::Last, k.0);
     }
 }

@@ -1,13 +1,15 @@
--- A store in a row: its own column is updated there, and every other column stays. For rows of any width. Assumes nothing.
+-- A store in a row: its own column is updated there, and every other column stays. For rows of any width and columns. Assumes nothing.
 use mathlib.Core.Path.{◌≡◌, sym, ap, fun_ext, ◌∙◌}
 use mathlib.Core.Logic.{◌≢◌, ◌⊎◌, inl, inr}
 use Prim.Native.Nat.{ℕ, suc, ◌+◌, ◌*◌, ◌≤◌, ◌<◌}
 use native.Mathlib.Nat.{mul-le-mul_left, mul-suc}
 use native.Mathlib.Omega.{arith}
-use Rattle.basics.specs.Maps.{upd}
-use Rattle.basics.proofs.Choice.{compare}
+use mathlib.Core.List.{List}
+use Rattle.basics.specs.Choice.{same}
+use Rattle.basics.specs.Maps.{at, upd}
+use Rattle.basics.proofs.Choice.{compare, pick_elim, same_equal, same_unequal}
 use Rattle.basics.proofs.Maps.{upd_here, upd_there, upd_elim}
-use Rattle.rows.specs.Rows.{place, column}
+use Rattle.rows.specs.Rows.{place, column, cells_of, stored_in}
 
 -- a row ends before a later one begins
 before_next : (width i j : ℕ) → i < j → width * i + width ≤ width * j
@@ -39,3 +41,15 @@ module _ {width : ℕ} where
       fun_ext (λ j.
       upd_there m (place width i f) v (λ (e : place width j g ≡ place width i f).
       apart (let row : width * j ≡ width * i = ap (λ x. width * x) (same_row small_g small_f j i e) in omega arith)))
+
+-- all columns at once
+module _ {C : Type 0} {number : C → ℕ} {width : ℕ} (in_row : (f : C) → number f < width) where
+  pub cells_stored : (f : C) (l l' : List ℕ) (i v : ℕ) → at l' ≡ upd (at l) (place width i (number f)) v → cells_of number width l' ≡ stored_in number f i v (cells_of number width l)
+  unfolding stored_in
+  cells_stored f l l' i v e = fun_ext (λ g. ap (column width (number g)) e ∙ go g)
+    where
+      go : (g : C) → column width (number g) (upd (at l) (place width i (number f)) v) ≡ stored_in number f i v (cells_of number width l) g
+      go g =
+          pick_elim (λ (x : ℕ → ℕ). column width (number g) (upd (at l) (place width i (number f)) v) ≡ x) (same (number g) (number f)) (upd (cells_of number width l g) i v) (cells_of number width l g)
+          (λ here. ap (λ n. column width (number g) (upd (at l) (place width i n) v)) (sym (same_equal here)) ∙ own_column (at l) i v (in_row g))
+          (λ there. other_column (at l) i v (in_row f) (in_row g) (same_unequal there))

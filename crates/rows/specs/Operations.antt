@@ -1,25 +1,11 @@
 -- The row of an operation: six steps or items that a run keeps of it, a column for each.
 use Rattle.std.specs.Prelude.{ℕ, List}
-use Rattle.basics.specs.Choice.{pick, same}
-use Rattle.basics.specs.Maps.{at, upd}
-use Rattle.rows.specs.Rows.{column, HasRows}
-
-pub data Column : Type 0 where
-  -- an operation's first step
-  First : Column
-  -- its last step, or that it was dropped
-  Last : Column
-  -- its last T1, R1 or W2
-  Start : Column
-  -- its changing Q3, P3 or V4
-  Link : Column
-  -- the item of its T5 or R3, or of the W4 that it passed
-  Taken : Column
-  -- where the line of its item's takers stands; an item is a put's operation number
-  Stands : Column
+use Rattle.rows.specs.Rows.{HasRows, cells_of, stored_in}
+use Rattle.rows.specs.declared.OpColumn.{OpColumn}
+use Rattle.rows.specs.declared.OpColumn.TheVariants.{First, Last, Start, Link, Taken, Stands}
 
 -- the cell of each column
-abbrev pub number : Column → ℕ
+abbrev pub number : OpColumn → ℕ
 number First = 0
 number Last = 1
 number Start = 2
@@ -41,11 +27,11 @@ HasOps n l = HasRows op_width n l
 
 -- what some rows hold: a map for each column
 abbrev pub Cells : Type 0
-Cells = Column → ℕ → ℕ
+Cells = OpColumn → ℕ → ℕ
 
 abbrev pub cells : List ℕ → Cells
-cells l f = column op_width (number f) (at l)
+cells l = cells_of number op_width l
 
 -- the cells after a store in the row of operation `o`
-unfoldable pub stored : Column → ℕ → ℕ → Cells → Cells
-stored f o v c g = pick (same (number g) (number f)) (upd (c g) o v) (c g)
+abbrev pub stored : OpColumn → ℕ → ℕ → Cells → Cells
+stored f o v c = stored_in number f o v c

@@ -1,52 +1,107 @@
-// Rows of cells in one lent list: a row for each operation, or for each node.
+// Rows of cells in one lent list: a row for each operation, or for each node. A cell is a u16 of lent memory, whatever its column holds:
+// a step, an operation, a node or a mark.
 #![tactic(auto)]
 
-ghost use Rattle.std.specs.Prelude.{◌≡◌, ◌<◌};
-ghost use Rattle.basics.specs.Maps.{at, upd};
-ghost use Rattle.rows.specs.Rows.{place, column, HasRows};
+ghost use Rattle.std.specs.Prelude.{◌≡◌, ℕ, ◌<◌};
+ghost use Rattle.std.proofs.Common.{rules};
+ghost use Rattle.rows.specs.Rows.{HasRows, cells_of, stored_in};
+ghost use Rattle.rows.specs.Operations as Operations;
+ghost use Rattle.rows.specs.Nodes as Nodes;
 
-// The columns of an operation's row: its first step, its last step, its last T1, R1 or W2, its changing Q3, P3 or V4, the item of
-// its T5, R3 or W4, and where the line of its item's takers stands.
-pub const FIRST: usize = 0;
+// The columns of rows of one kind: what a row holds, a cell for each.
+pub trait Column {
+    // how wide a row is
+    const WIDTH: usize;
 
-pub const LAST: usize = 1;
+    ghost WIDTH: { ℕ };
 
-pub const START: usize = 2;
+    // the cell of each column
+    ghost number: { Self → ℕ };
 
-pub const LINK: usize = 3;
+    fn index(self) -> usize
+        ensures { result ≡ number self };
 
-pub const TAKEN: usize = 4;
+    // each column has a cell in the row
+    ghost in_row: { (f : Self) → number f < WIDTH };
 
-pub const STANDS: usize = 5;
+    // that is no other's
+    ghost own_cell: { (f g : Self) → number f ≡ number g → f ≡ g };
+}
 
-// how many they are
-pub const OPS: usize = 6;
+// The columns of an operation's row.
+#[derive(Clone, Copy, PartialEq, Eq, Debug)]
+pub enum OpColumn {
+    // its first step
+    First,
+    // its last step, or that it was dropped
+    Last,
+    // its last T1, R1 or W2
+    Start,
+    // its changing Q3, P3 or V4
+    Link,
+    // the item of its T5 or R3, or of the W4 that it passed
+    Taken,
+    // where the line of its item's takers stands; an item is a put's operation number
+    Stands,
+}
 
-// What stands for the last step of a dropped operation, which has none: no step has this number.
+impl Column for OpColumn {
+    const WIDTH: usize = 6;
+
+    ghost WIDTH = { Operations.op_width };
+
+    ghost number = { Operations.number };
+
+    ghost in_row = { Prim.search rules };
+
+    ghost own_cell = { Prim.search rules };
+
+    fn index(self) -> usize {
+        self as usize
+    }
+}
+
+// What stands for the last step of a dropped operation, which has none: no step has this number. A cell of lent memory is a u16, so a
+// mark in it is a number and not the `None` of an `Option`.
 pub const DROPPED: u16 = 65535;
 
 // The columns of a node's row: its next, its mark and its upper.
-pub const NEXT: usize = 0;
-
-pub const MARK: usize = 1;
-
-pub const UPPER: usize = 2;
-
-// How wide the row is: three columns and a free cell. A processor addresses rows of four cells without a multiplication.
-pub const NODES: usize = 4;
-
-// Cell `f` of row `i`, in rows of so many cells.
-pub fn cell(rows: &[u16], width: usize, i: u16, f: usize) -> u16
-    requires { (f < width) × HasRows width i rows.now }
-    ensures { result ≡ column width f (at rows.now) i }
-{
-    rows[width * (i as usize) + f]
+#[derive(Clone, Copy, PartialEq, Eq, Debug)]
+pub enum NodeColumn {
+    Next,
+    Mark,
+    Upper,
 }
 
-// Stores a value in cell `f` of row `i`.
-pub fn store(rows: &mut [u16], width: usize, i: u16, f: usize, v: u16)
-    requires { (f < width) × HasRows width i rows.old }
-    ensures { at rows.new ≡ upd (at rows.old) (place width i f) v }
+impl Column for NodeColumn {
+    // Three columns and a free cell: a processor addresses rows of four cells without a multiplication.
+    const WIDTH: usize = 4;
+
+    ghost WIDTH = { Nodes.node_width };
+
+    ghost number = { Nodes.number };
+
+    ghost in_row = { Prim.search rules };
+
+    ghost own_cell = { Prim.search rules };
+
+    fn index(self) -> usize {
+        self as usize
+    }
+}
+
+// What a column says in row `i`.
+pub fn cell<C: Column>(rows: &[u16], i: u16, column: C) -> u16
+    requires { HasRows C.WIDTH i rows.now }
+    ensures { result ≡ cells_of C.number C.WIDTH rows.now column i }
 {
-    rows[width * (i as usize) + f] = v;
+    rows[C::WIDTH * (i as usize) + column.index()]
+}
+
+// Stores a value in a column of row `i`.
+pub fn store<C: Column>(rows: &mut [u16], i: u16, column: C, value: u16)
+    requires { HasRows C.WIDTH i rows.old }
+    ensures { cells_of C.number C.WIDTH rows.new ≡ stored_in C.number column i value (cells_of C.number C.WIDTH rows.old) }
+{
+    rows[C::WIDTH * (i as usize) + column.index()] = value;
 }

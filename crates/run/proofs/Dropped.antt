@@ -8,7 +8,7 @@ use lib.ListN.{set}
 use Rattle.basics.specs.Choice.{same}
 use Rattle.basics.specs.Maps.{upd}
 use Rattle.rows.specs.Operations.{Cells, cells, stored, dropped_mark}
-use Rattle.rows.specs.Operations.Column.{First, Last}
+use Rattle.rows.specs.declared.OpColumn.TheVariants.{First, Last}
 use Rattle.job.specs.declared.Process.{Process}
 use Rattle.job.specs.declared.Slot.TheVariants.{Drops}
 use Rattle.job.specs.Job.{Job}

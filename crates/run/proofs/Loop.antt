@@ -12,7 +12,7 @@ use Rattle.rows.specs.Rows as Rows
 use Rattle.rows.specs.Rows.{column}
 use Rattle.rows.specs.Nodes.{node_width, nexts}
 use Rattle.rows.specs.Operations.{cells, stored, dropped_mark}
-use Rattle.rows.specs.Operations.Column.{First, Last}
+use Rattle.rows.specs.declared.OpColumn.TheVariants.{First, Last}
 use Rattle.rows.proofs.Operations.{by_column}
 use Rattle.job.specs.declared.Heading.{Heading}
 use Rattle.job.specs.declared.Process.{Process}

@@ -3,7 +3,7 @@ use Rattle.std.specs.Prelude.{◌≡◌, ℕ, ◌+◌, ◌≤◌, ◌<◌, List,
 use Rattle.basics.specs.Choice.{pick, same, less}
 use Rattle.basics.specs.Maps.{at}
 use Rattle.rows.specs.Operations.{HasOps, cells, stored, dropped_mark}
-use Rattle.rows.specs.Operations.Column.{First, Last}
+use Rattle.rows.specs.declared.OpColumn.TheVariants.{First, Last}
 use Rattle.rows.specs.Nodes.{HasNodes}
 use Rattle.job.specs.declared.Heading.{Heading}
 use Rattle.job.specs.declared.Slot.{Slot}

@@ -19,6 +19,7 @@ use job::{Heading, Limits, Operation, Process, Slot, Step, is_drop, process_of, 
 use journal::{enter, enter_drop, enter_end, is_waiting, lost_rounds};
 use machine::{Finish, Place};
 use place::advanced;
+use rows::{Column, NodeColumn, OpColumn};
 use step::{Stepped, step};
 use table::has_ended;
 
@@ -42,9 +43,9 @@ pub struct Object {
 
 impl Object {
     // A row for node 0 and for each node that an operation may link, and as many rows of operations.
-    pub const NODES: usize = rows::NODES * (Limits::OPERATIONS + 1);
+    pub const NODES: usize = NodeColumn::WIDTH * (Limits::OPERATIONS + 1);
 
-    pub const OPS: usize = rows::OPS * (Limits::OPERATIONS + 1);
+    pub const OPS: usize = OpColumn::WIDTH * (Limits::OPERATIONS + 1);
 
     // A cell for each step; step 0 is none.
     pub const STEPS: usize = Limits::STEPS + 1;

@@ -16,7 +16,7 @@ use Rattle.access.specs.declared.Accessed.{Accessed}
 use Rattle.access.specs.View.{reached_from, reached_by, Does}
 use Rattle.basics.proofs.Choice.{pick_else}
 use Rattle.rows.specs.Operations.{Cells, cells, stored}
-use Rattle.rows.specs.Operations.Column.{First}
+use Rattle.rows.specs.declared.OpColumn.TheVariants.{First}
 use Rattle.journal.specs.Stored.{noted, counted, Countable, HasCells}
 use Rattle.journal.proofs.Whole.{first_noted}
 use Rattle.step.specs.Promise.{heard}

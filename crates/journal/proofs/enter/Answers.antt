@@ -1,11 +1,12 @@
--- `journal::enter` meets its contract: the operation's cell and the step's are stored. Assumes nothing.
+-- `journal::enter` meets its contract. Assumes nothing.
 use Rattle.basics.proofs.Maps.{at_set}
-use Rattle.rows.specs.Operations.Column.{First}
-use Rattle.rows.proofs.Operations.{cells_stored}
-use Rattle.journal.specs.Stored.{entered}
 use Rattle.std.proofs.Common.{rules}
+use Rattle.journal.specs.Stored.{entered}
 use Rattle.journal.proofs.enter.Goals as goal
 
-pub returns : goal.returns
+pub returns-clause-ops_after : goal.returns-clause-ops_after
 unfolding entered
-returns c = record { ops_after = cells_stored First _ _ _ _ c.store_first.ensures; by_after = at_set _ _ _ (search rules) }
+returns-clause-ops_after c = c.store_first.ensures
+
+pub returns-clause-by_after : goal.returns-clause-by_after
+returns-clause-by_after c = at_set _ _ _ (search rules)

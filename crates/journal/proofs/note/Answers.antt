@@ -2,8 +2,6 @@
 use mathlib.Core.Path.{subst}
 use Rattle.machine.specs.Journal.{item_of}
 use Rattle.rows.specs.Operations.{HasOps}
-use Rattle.rows.specs.Operations.Column.{Start, Link, Taken}
-use Rattle.rows.proofs.Operations.{cells_stored}
 use Rattle.journal.specs.Stored.{noted}
 use Rattle.journal.proofs.note.Goals as goal
 
@@ -21,11 +19,11 @@ returns-in-Quiet c = rw c.in-Quiet.is
 
 pub returns-in-Round : goal.returns-in-Round
 unfolding noted
-returns-in-Round c = rw c.in-Round.is (cells_stored Start _ _ _ _ c.store.ensures)
+returns-in-Round c = rw c.in-Round.is c.store.ensures
 
 pub returns-in-Linked : goal.returns-in-Linked
 unfolding noted
-returns-in-Linked c = rw c.in-Linked.is (cells_stored Link _ _ _ _ c.store-in-Linked.ensures)
+returns-in-Linked c = rw c.in-Linked.is c.store-in-Linked.ensures
 
 pub returns-in-Moved : goal.returns-in-Moved
 unfolding noted
@@ -33,7 +31,7 @@ returns-in-Moved c = rw c.in-Moved.is c.note_move.ensures
 
 pub returns-in-Late : goal.returns-in-Late
 unfolding noted
-returns-in-Late c = rw c.in-Late.is (cells_stored Taken _ _ _ _ c.store-in-Late.ensures)
+returns-in-Late c = rw c.in-Late.is c.store-in-Late.ensures
 
 pub returns-in-Raised : goal.returns-in-Raised
 unfolding noted

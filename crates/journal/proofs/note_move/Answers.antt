@@ -1,8 +1,12 @@
 -- `journal::note_move` meets its contract: the item is stored, and then where its line stands. Assumes nothing.
+use mathlib.Core.Path.{ap, ◌∙◌}
+use Rattle.basics.specs.Choice.{pick, same}
+use Rattle.rows.specs.Rows.{stored_in}
+use Rattle.rows.specs.Operations.{Cells, stored}
+use Rattle.rows.specs.declared.OpColumn.TheVariants.{Stands}
 use Rattle.journal.specs.Stored.{earlier}
-use Rattle.journal.proofs.Stores.{taken_and_stands}
 use Rattle.journal.proofs.note_move.Goals as goal
 
 pub returns : goal.returns
-returns c = taken_and_stands (λ old. earlier old c.args.k.0) _ _ _ _ _
-    c.store.ensures c.store_first.ensures
+unfolding stored_in pick same
+returns c = c.store_first.ensures ∙ ap (λ (m : Cells). stored Stands c.args.n (earlier (m Stands c.args.n) c.args.k.0) m) c.store.ensures

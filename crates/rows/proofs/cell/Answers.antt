@@ -6,4 +6,4 @@ use Rattle.rows.proofs.cell.Goals as goal
 
 pub returns : goal.returns
 unfolding column at
-returns c = refl
+returns g c = rw (c.WIDTH.ensures, c.index.ensures) refl

@@ -7,8 +7,9 @@ use lib.ListN.{length}
 use Rattle.basics.specs.Choice.{pick, same}
 use Rattle.basics.proofs.Maps.{upd_there}
 use mathlib.Core.Bool.{Bool}
-use Rattle.rows.specs.Operations.{Cells, cells, stored}
-use Rattle.rows.specs.Operations.Column.{First}
+use Rattle.rows.specs.Rows.{stored_in}
+use Rattle.rows.specs.Operations.{Cells, cells}
+use Rattle.rows.specs.declared.OpColumn.TheVariants.{First}
 use Rattle.machine.specs.declared.Event.{Event}
 use Rattle.journal.specs.Stored.{entered, noted, counted, closed, Countable, HasCells}
 use Rattle.run.proofs.make.Goals as goal
@@ -19,7 +20,7 @@ in_turn e back o k c first then last same = last ∙ (λ i. closed (same i) o k 
 
 -- a first step that is entered leaves what the step needs
 step_there : {e : Event} {o : ℕ} (k : ℕ) {ops ops' : List ℕ} → 1 ≤ o → HasCells e o ops → Countable ops → length ops' ≡ length ops → cells ops' ≡ entered o k (cells ops) → HasCells e o ops' × Countable ops'
-unfolding entered stored pick same
+unfolding entered stored_in pick same
 step_there {o = o} k {ops = ops} some there n kept first = (
   record { own_row = omega (arith, there.own_row); item_row = omega (arith, there.item_row) },
   record {
