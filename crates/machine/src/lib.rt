@@ -1,7 +1,11 @@
 // The words of a run that code and definitions share: rows, accesses, places and what a step was.
 #![tactic(auto)]
 
-use job::{Operation, Step};
+ghost use Rattle.std.specs.Prelude.{◌≡◌};
+ghost use Rattle.machine.specs.Memory.{fresh_memory};
+
+use job::{Limits, Operation, Step};
+use rows::{Column, NodeColumn, OpColumn};
 
 // Where an operation stands: at one of the 36 rows of the listings, or ended, with done, with item n, with item t,
 // or with empty.
@@ -119,13 +123,42 @@ pub enum Event {
     Raised(u16),
 }
 
+// The cells of an object that are no node's.
+#[derive(Clone, Copy, Debug, PartialEq, Eq)]
+pub struct Object {
+    pub head: u16,
+    pub tail: u16,
+    pub top: u16,
+}
+
+impl Object {
+    // A row for node 0 and for each node that an operation may link, and as many rows of operations.
+    pub const NODES: usize = NodeColumn::WIDTH * (Limits::OPERATIONS + 1);
+
+    pub const OPS: usize = OpColumn::WIDTH * (Limits::OPERATIONS + 1);
+
+    // A cell for each step; step 0 is none.
+    pub const STEPS: usize = Limits::STEPS + 1;
+
+    // "A fresh queue has Head and Tail at node 0 and every next none; a fresh stack has Top none and every mark clear." Of the two-way
+    // linked stack: "Top starts there", at sentinel 0.
+    #[tactic(auto, unfolding(crate::specs::Memory::fresh_memory))]
+    pub fn fresh() -> Self
+        ensures { (result.head ≡ fresh_memory.head) × (result.tail ≡ fresh_memory.tail) × (result.top ≡ fresh_memory.top) }
+    {
+        Object {
+            head: 0,
+            tail: 0,
+            top: 0,
+        }
+    }
+}
+
 // What a run leaves beside the lent memory: the object's cells, a step behind which every step of the schedule is idle, and how many
 // rounds were lost.
 #[derive(Clone, Copy, Debug, PartialEq, Eq)]
 pub struct Finish {
-    pub head: u16,
-    pub tail: u16,
-    pub top: u16,
+    pub object: Object,
     pub reach: Step,
     pub lost: u16,
 }
