@@ -10,7 +10,7 @@ ghost use Rattle.machine.specs.Memory.{set_from_to, yes_if};
 ghost use Rattle.access.specs.View.{Does, DoesAlone, answered};
 
 use job::Operation;
-use machine::{Event, Outcome};
+use machine::{Event, Object, Outcome};
 use rows::{NodeColumn, cell, store};
 
 // What cells and registers hold. They are numbers and no enums, since a cell is a u16 of lent memory, whatever its column; and none,
@@ -35,53 +35,31 @@ const LIVE: u16 = 0;
 const CLEARED: u16 = 1;
 
 // The registers of the operation that makes a step, and the cells of shared memory that are no node's.
-#[derive(Clone, Copy)]
+#[derive(Clone, Copy, Debug, PartialEq, Eq)]
 pub struct Scalars {
     pub h: u16,
     pub t: u16,
     pub n: u16,
-    pub head: u16,
-    pub tail: u16,
-    pub top: u16,
+    pub object: Object,
 }
 
 // What an access left in them, how it came out, and what it was for the record.
-#[derive(Clone, Copy)]
+#[derive(Clone, Copy, Debug, PartialEq, Eq)]
 pub struct Accessed {
-    pub h: u16,
-    pub t: u16,
-    pub n: u16,
-    pub head: u16,
-    pub tail: u16,
-    pub top: u16,
+    pub left: Scalars,
     pub outcome: Outcome,
     pub event: Event,
 }
 
-// The answer of an access that leaves cells `c`.
-fn answer(c: Scalars, outcome: Outcome, event: Event) -> Accessed
-    ensures { result ≡ answered c outcome event }
+// The answer of an access that leaves cells `left`.
+fn answer(left: Scalars, outcome: Outcome, event: Event) -> Accessed
+    ensures { result ≡ answered left outcome event }
 {
     Accessed {
-        h: c.h,
-        t: c.t,
-        n: c.n,
-        head: c.head,
-        tail: c.tail,
-        top: c.top,
+        left,
         outcome,
         event,
     }
-}
-
-// "«Set A from b to c» changes A only if it holds b."
-fn set_from_to(a: u16, b: u16, c: u16) -> u16
-    ensures { result ≡ set_from_to a b c }
-{
-    if a == b {
-        return c;
-    }
-    a
 }
 
 // Did the test hold, or the change happen?
@@ -94,11 +72,22 @@ fn yes_if_same(a: u16, b: u16) -> Outcome
     Outcome::No
 }
 
+// "«Set A from b to c» changes A only if it holds b."
+fn set_from_to(a: &mut u16, b: u16, c: u16) -> Outcome
+    ensures { (a.new ≡ set_from_to a.old b c) × (result ≡ yes_if (same a.old b)) }
+{
+    let held = *a;
+    if held == b {
+        *a = c;
+    }
+    yes_if_same(held, b)
+}
+
 // "T1 read Head as h."
 pub fn read_head(mut c: Scalars) -> Accessed
     ensures { (own : ℕ) → DoesAlone ReadHead own c result }
 {
-    c.h = c.head;
+    c.h = c.object.head;
     answer(c, Outcome::Yes, Event::Round)
 }
 
@@ -106,7 +95,7 @@ pub fn read_head(mut c: Scalars) -> Accessed
 pub fn read_tail(mut c: Scalars) -> Accessed
     ensures { (own : ℕ) → DoesAlone ReadTail own c result }
 {
-    c.t = c.tail;
+    c.t = c.object.tail;
     answer(c, Outcome::Yes, Event::Quiet)
 }
 
@@ -151,8 +140,7 @@ pub fn link_own(own: Operation, c: Scalars, nodes: &mut [u16]) -> Accessed
 pub fn tail_to_own(own: Operation, mut c: Scalars) -> Accessed
     ensures { DoesAlone TailToOwn own.0 c result }
 {
-    let outcome = yes_if_same(c.tail, c.t);
-    c.tail = set_from_to(c.tail, c.t, own.0);
+    let outcome = set_from_to(&mut c.object.tail, c.t, own.0);
     answer(c, outcome, Event::Quiet)
 }
 
@@ -160,8 +148,7 @@ pub fn tail_to_own(own: Operation, mut c: Scalars) -> Accessed
 pub fn tail_to_n(mut c: Scalars) -> Accessed
     ensures { (own : ℕ) → DoesAlone TailToN own c result }
 {
-    let outcome = yes_if_same(c.tail, c.t);
-    c.tail = set_from_to(c.tail, c.t, c.n);
+    let outcome = set_from_to(&mut c.object.tail, c.t, c.n);
     answer(c, outcome, Event::Quiet)
 }
 
@@ -169,8 +156,8 @@ pub fn tail_to_n(mut c: Scalars) -> Accessed
 pub fn head_to_n(mut c: Scalars) -> Accessed
     ensures { (own : ℕ) → DoesAlone HeadToN own c result }
 {
-    if c.head == c.h {
-        c.head = c.n;
+    if c.object.head == c.h {
+        c.object.head = c.n;
         return answer(c, Outcome::Yes, Event::Moved(c.n));
     }
     answer(c, Outcome::No, Event::Late(c.n))
@@ -180,8 +167,8 @@ pub fn head_to_n(mut c: Scalars) -> Accessed
 pub fn read_top(mut c: Scalars) -> Accessed
     ensures { (own : ℕ) → DoesAlone ReadTop own c result }
 {
-    c.t = c.top;
-    let outcome = yes_if_same(c.top, NONE);
+    c.t = c.object.top;
+    let outcome = yes_if_same(c.object.top, NONE);
     answer(c, outcome, Event::Quiet)
 }
 
@@ -189,8 +176,8 @@ pub fn read_top(mut c: Scalars) -> Accessed
 pub fn read_top_to_take(mut c: Scalars) -> Accessed
     ensures { (own : ℕ) → DoesAlone ReadTopToTake own c result }
 {
-    c.t = c.top;
-    if c.top == NONE {
+    c.t = c.object.top;
+    if c.object.top == NONE {
         return answer(c, Outcome::Bare, Event::Round);
     }
     answer(c, Outcome::Yes, Event::Round)
@@ -210,8 +197,8 @@ pub fn push(own: Operation, mut c: Scalars, nodes: &mut [u16]) -> Accessed
     requires { HasNodes own.0 nodes.old }
     ensures { Does Push own.0 c nodes.old result nodes.new }
 {
-    if c.top == c.t {
-        c.top = own.0;
+    if c.object.top == c.t {
+        c.object.top = own.0;
         store(nodes, own.0, NodeColumn::Next, c.t);
         return answer(c, Outcome::Yes, Event::Linked);
     }
@@ -232,8 +219,8 @@ pub fn top_to_next(mut c: Scalars, nodes: &[u16]) -> Accessed
     requires { HasNodes c.t nodes.now }
     ensures { (own : ℕ) → Does TopToNext own c nodes.now result nodes.now }
 {
-    let outcome = yes_if_same(c.top, c.t);
-    c.top = set_from_to(c.top, c.t, cell(nodes, c.t, NodeColumn::Next));
+    let next = cell(nodes, c.t, NodeColumn::Next);
+    let outcome = set_from_to(&mut c.object.top, c.t, next);
     answer(c, outcome, Event::Quiet)
 }
 
@@ -282,8 +269,7 @@ pub fn link_above(own: Operation, c: Scalars, nodes: &mut [u16]) -> Accessed
 pub fn top_to_own(own: Operation, mut c: Scalars) -> Accessed
     ensures { DoesAlone TopToOwn own.0 c result }
 {
-    let outcome = yes_if_same(c.top, c.t);
-    c.top = set_from_to(c.top, c.t, own.0);
+    let outcome = set_from_to(&mut c.object.top, c.t, own.0);
     answer(c, outcome, Event::Quiet)
 }
 
@@ -291,8 +277,7 @@ pub fn top_to_own(own: Operation, mut c: Scalars) -> Accessed
 pub fn top_to_n(mut c: Scalars) -> Accessed
     ensures { (own : ℕ) → DoesAlone TopToN own c result }
 {
-    let outcome = yes_if_same(c.top, c.t);
-    c.top = set_from_to(c.top, c.t, c.n);
+    let outcome = set_from_to(&mut c.object.top, c.t, c.n);
     answer(c, outcome, Event::Quiet)
 }
 

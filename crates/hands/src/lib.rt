@@ -3,51 +3,66 @@
 
 ghost use Rattle.std.specs.Prelude.{◌≡◌, ◌+◌, ◌<◌, ◌≤◌, length};
 ghost use Rattle.job.specs.Stream.{«record_at»};
-ghost use Rattle.job.specs.Job.{«job_of»};
+ghost use Rattle.job.specs.Job.{«job_of», heading_of};
 ghost use Rattle.machine.specs.Run.{before, «operation_after»};
 
-use job::{Kind, Operation, Process, is_put, owner};
+use job::{Heading, Operation, Process, is_put, owner};
 use machine::Place;
 use table::first_row;
 
-// Is an operation a put? The number after the last is no operation.
-fn puts(stream: &[u8], count: u16, o: Operation) -> bool
-    requires { (count ≡ (job_of stream.now).count) × (record_at count + 3 < length stream.now) }
-    ensures { result ≡ (job_of stream.now).is_put o.0 }
-{
-    if count < o.0 {
-        return false;
-    }
-    is_put(stream, o)
+// A job as its run reads it: the stream, and what the stream's header says, with every operation's record there.
+#[derive(Clone, Copy)]
+pub struct Source<'a> {
+    pub stream: &'a [u8],
+    pub heading: Heading,
+    ghost told: { heading ≡ heading_of (job_of stream.now) },
+    ghost whole: { record_at heading.count + 3 < length stream.now },
+    ghost few: { heading.count < 65535 },
 }
 
-// A place before the first step of an operation of the stream's job.
-pub fn begin(stream: &[u8], object: Kind, count: u16, o: Operation) -> Place
-    requires { (count ≡ (job_of stream.now).count) × (record_at count + 3 < length stream.now) × (object ≡ (job_of stream.now).object) }
-    ensures { result ≡ before (job_of stream.now) o.0 }
-{
-    let row = first_row(object, puts(stream, count, o));
-    Place {
-        operation: o,
-        row,
-        h: 0,
-        t: 0,
-        n: 0,
-    }
-}
-
-// The operation of a process that comes after operation o.
-pub fn next_operation(stream: &[u8], count: u16, p: Process, o: Operation) -> Operation
-    requires { (count ≡ (job_of stream.now).count) × (record_at count + 3 < length stream.now) × (count < 65535) × (o.0 ≤ count) }
-    ensures { result.0 ≡ operation_after (job_of stream.now) p.0 o.0 }
-{
-    let mut i = o.0 + 1;
-    while i <= count {
-        let q = owner(stream, Operation(i));
-        if q.0 == p.0 {
-            return Operation(i);
+impl<'a> Source<'a> {
+    // Is an operation a put? The number after the last is no operation.
+    fn puts(self, o: Operation) -> bool
+        ensures { result ≡ (job_of self.entry.stream.now).is_put o.0 }
+    {
+        if self.heading.count < o.0 {
+            return false;
         }
-        i += 1;
+        is_put(self.stream, o)
     }
-    Operation(i)
+
+    // A place before the first step of an operation.
+    pub fn begin(self, o: Operation) -> Place
+        ensures { result ≡ before (job_of self.entry.stream.now) o.0 }
+    {
+        Place {
+            operation: o,
+            row: first_row(self.heading.object, self.puts(o)),
+            h: 0,
+            t: 0,
+            n: 0,
+        }
+    }
+
+    // The operation of a process that comes after operation o.
+    pub fn next_operation(self, p: Process, o: Operation) -> Operation
+        requires { o.0 ≤ self.heading.count }
+        ensures { result.0 ≡ operation_after (job_of self.entry.stream.now) p.0 o.0 }
+    {
+        let count = self.heading.count;
+        for i in o.0 + 1..count + 1 {
+            if owner(self.stream, Operation(i)) == p {
+                return Operation(i);
+            }
+        }
+        Operation(count + 1)
+    }
+
+    // The place of process p before the operation that comes after operation o.
+    pub fn place_after(self, p: Process, o: Operation) -> Place
+        requires { o.0 ≤ self.heading.count }
+        ensures { result ≡ before (job_of self.entry.stream.now) (operation_after (job_of self.entry.stream.now) p.0 o.0) }
+    {
+        self.begin(self.next_operation(p, o))
+    }
 }

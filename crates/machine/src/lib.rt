@@ -1,11 +1,15 @@
 // The words of a run that code and definitions share: rows, accesses, places and what a step was.
 #![tactic(auto)]
 
-use job::{Operation, Step};
+ghost use Rattle.std.specs.Prelude.{◌≡◌};
+ghost use Rattle.machine.specs.Memory.{fresh_memory};
+
+use job::{Limits, Operation, Step};
+use rows::{Column, NodeColumn, OpColumn};
 
 // Where an operation stands: at one of the 36 rows of the listings, or ended, with done, with item n, with item t,
 // or with empty.
-#[derive(Clone, Copy)]
+#[derive(Clone, Copy, Debug, PartialEq, Eq)]
 pub enum Row {
     Q1,
     Q2,
@@ -50,7 +54,7 @@ pub enum Row {
 }
 
 // What a row does to shared memory: one read, one write or one compare-and-set.
-#[derive(Clone, Copy)]
+#[derive(Clone, Copy, Debug, PartialEq, Eq)]
 pub enum Access {
     ReadHead,
     ReadTail,
@@ -76,7 +80,7 @@ pub enum Access {
 }
 
 // How an access came out: by it a row chooses its successor. Bare: the object was found empty, which ends a take.
-#[derive(Clone, Copy)]
+#[derive(Clone, Copy, Debug, PartialEq, Eq)]
 pub enum Outcome {
     Yes,
     No,
@@ -84,7 +88,7 @@ pub enum Outcome {
 }
 
 // A row of the step table: the access, the successor if it succeeds, and if not.
-#[derive(Clone, Copy)]
+#[derive(Clone, Copy, Debug, PartialEq, Eq)]
 pub struct Entry {
     pub access: Access,
     pub yes: Row,
@@ -93,7 +97,7 @@ pub struct Entry {
 
 // The place of one process: the operation in hand, its registers, which hold nodes, and the row where it stands. The row is last: right
 // behind the operation, compiled code would load the two at once that it stored one by one, and wait.
-#[derive(Clone, Copy)]
+#[derive(Clone, Copy, Debug, PartialEq, Eq)]
 pub struct Place {
     pub operation: Operation,
     pub h: u16,
@@ -103,7 +107,7 @@ pub struct Place {
 }
 
 // What a step was for the record.
-#[derive(Clone, Copy)]
+#[derive(Clone, Copy, Debug, PartialEq, Eq)]
 pub enum Event {
     // none of those below
     Quiet,
@@ -119,13 +123,42 @@ pub enum Event {
     Raised(u16),
 }
 
-// What a run leaves beside the lent memory: the object's cells, a step behind which every step of the schedule is idle, and how many
-// rounds were lost.
-#[derive(Clone, Copy)]
-pub struct Finish {
+// The cells of an object that are no node's.
+#[derive(Clone, Copy, Debug, PartialEq, Eq)]
+pub struct Object {
     pub head: u16,
     pub tail: u16,
     pub top: u16,
+}
+
+impl Object {
+    // A row for node 0 and for each node that an operation may link, and as many rows of operations.
+    pub const NODES: usize = NodeColumn::WIDTH * (Limits::OPERATIONS + 1);
+
+    pub const OPS: usize = OpColumn::WIDTH * (Limits::OPERATIONS + 1);
+
+    // A cell for each step; step 0 is none.
+    pub const STEPS: usize = Limits::STEPS + 1;
+
+    // "A fresh queue has Head and Tail at node 0 and every next none; a fresh stack has Top none and every mark clear." Of the two-way
+    // linked stack: "Top starts there", at sentinel 0.
+    #[tactic(auto, unfolding(crate::specs::Memory::fresh_memory))]
+    pub fn fresh() -> Self
+        ensures { (result.head ≡ fresh_memory.head) × (result.tail ≡ fresh_memory.tail) × (result.top ≡ fresh_memory.top) }
+    {
+        Object {
+            head: 0,
+            tail: 0,
+            top: 0,
+        }
+    }
+}
+
+// What a run leaves beside the lent memory: the object's cells, a step behind which every step of the schedule is idle, and how many
+// rounds were lost.
+#[derive(Clone, Copy, Debug, PartialEq, Eq)]
+pub struct Finish {
+    pub object: Object,
     pub reach: Step,
     pub lost: u16,
 }

@@ -3,11 +3,12 @@ use Rattle.std.specs.Prelude.{◌≡◌, ℕ, List}
 use Rattle.rows.specs.Nodes.{nexts, HasNodes}
 use Rattle.machine.specs.declared.Access.{Access}
 use Rattle.machine.specs.declared.Event.{Event}
+use Rattle.machine.specs.declared.Object.{Object}
 use Rattle.machine.specs.declared.Place.{Place}
 use Rattle.machine.specs.Run.{reached, row_after}
 use Rattle.machine.specs.Notes.{event_of, acted}
 use Rattle.access.specs.declared.Scalars.{Scalars}
-use Rattle.access.specs.Nodes.{memory_of}
+use Rattle.access.specs.Nodes.{object_memory}
 use Rattle.access.specs.View.{reached_from}
 use Rattle.step.specs.declared.Stepped.{Stepped}
 
@@ -22,12 +23,12 @@ pub record Inside (own h t : ℕ) (nodes : List ℕ) : Type 0 where
 unfoldable pub heard : Access → ℕ → Scalars → List ℕ → Event
 heard a own c nodes = event_of a (reached_from a own c nodes).outcome (reached_from a own c nodes).registers
 
--- the step of place `p` on memory and nodes as given, with the nodes as it left them
-pub record IsStep (p : Place) (head tail top : ℕ) (nodes : List ℕ) (r : Stepped) (nodes' : List ℕ) : Type 0 where
-  pub memory : memory_of r.head r.tail r.top nodes' ≡ (reached (memory_of head tail top nodes) p).memory
-  pub registers : record { h = r.h; t = r.t; n = r.n } ≡ (reached (memory_of head tail top nodes) p).registers
-  pub row : r.row ≡ row_after p (reached (memory_of head tail top nodes) p)
+-- the step of place `p` on an object's cells and nodes as given, with the nodes as it left them
+pub record IsStep (p : Place) (object : Object) (nodes : List ℕ) (r : Stepped) (nodes' : List ℕ) : Type 0 where
+  pub memory : object_memory r.left.object nodes' ≡ (reached (object_memory object nodes) p).memory
+  pub registers : record { h = r.left.h; t = r.left.t; n = r.left.n } ≡ (reached (object_memory object nodes) p).registers
+  pub row : r.row ≡ row_after p (reached (object_memory object nodes) p)
 
 -- what that step is for the record
-unfoldable pub event_at : Place → ℕ → ℕ → ℕ → List ℕ → Event
-event_at p head tail top nodes = (acted p (reached (memory_of head tail top nodes) p)).event
+unfoldable pub event_at : Place → Object → List ℕ → Event
+event_at p object nodes = (acted p (reached (object_memory object nodes) p)).event

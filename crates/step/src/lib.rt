@@ -18,18 +18,13 @@ use access::{
 };
 use job::{Operation, Step};
 use journal::{count_lost, note};
-use machine::{Access, Entry, Outcome, Place, Row};
+use machine::{Access, Entry, Object, Outcome, Place, Row};
 
 // What a step left: the place's row and registers, and the three cells of shared memory.
-#[derive(Clone, Copy)]
+#[derive(Clone, Copy, Debug, PartialEq, Eq)]
 pub struct Stepped {
     pub row: Row,
-    pub h: u16,
-    pub t: u16,
-    pub n: u16,
-    pub head: u16,
-    pub tail: u16,
-    pub top: u16,
+    pub left: Scalars,
 }
 
 // The same access, noted: what it was for the record, at step k of operation `own`.
@@ -37,35 +32,30 @@ fn logged(d: Accessed, own: Operation, k: Step, ops: &mut [u16]) -> Accessed
     requires { HasCells d.event own.0 ops.old }
     ensures { (result ≡ d) × (cells ops.new ≡ noted d.event own.0 k.0 (cells ops.old)) }
 {
-    let event = d.event;
-    note(event, own, k, ops);
+    note(d.event, own, k, ops);
     d
 }
 
 // A Q3, counted as a lost round if it failed.
+#[tactic(auto, unfolding(journal::specs::Stored::counted, basics::specs::Choice::pick))]
 fn tried(d: Accessed, ops: &mut [u16]) -> Accessed
     requires { Countable ops.old }
     ensures { (result ≡ d) × (cells ops.new ≡ counted (goes_back Link d.outcome) (cells ops.old)) }
 {
-    let outcome = d.outcome;
-    match outcome {
-        Outcome::Yes => {}
-        Outcome::No => count_lost(ops),
-        Outcome::Bare => {}
+    if d.outcome == Outcome::No {
+        count_lost(ops);
     }
     d
 }
 
 // A Q5 or T4, which is a lost round whether it moved Tail or not.
+#[tactic(auto, unfolding(journal::specs::Stored::counted, basics::specs::Choice::pick))]
 fn helped(d: Accessed, ops: &mut [u16]) -> Accessed
     requires { Countable ops.old }
     ensures { (result ≡ d) × (cells ops.new ≡ counted (goes_back TailToN d.outcome) (cells ops.old)) }
 {
-    let outcome = d.outcome;
-    match outcome {
-        Outcome::Yes => count_lost(ops),
-        Outcome::No => count_lost(ops),
-        Outcome::Bare => {}
+    if d.outcome != Outcome::Bare {
+        count_lost(ops);
     }
     d
 }
@@ -109,56 +99,35 @@ fn perform(
 }
 
 // The row after an access that came out so.
+#[tactic(auto, unfolding(machine::specs::Table::successor))]
 fn successor(e: Entry, outcome: Outcome) -> Row
     ensures { result ≡ successor e outcome }
 {
-    let yes = e.yes;
-    let no = e.no;
     match outcome {
-        Outcome::Yes => yes,
-        Outcome::No => no,
+        Outcome::Yes => e.yes,
+        Outcome::No => e.no,
         Outcome::Bare => Row::Empty,
     }
 }
 
 // Step k: that of place `p`, whose operation has not ended. The nodes' rows are shared memory; the operations' rows are the journal, where
 // the step's event is noted, and a lost round counted.
-pub fn step(
-    p: Place,
-    k: Step,
-    head: u16,
-    tail: u16,
-    top: u16,
-    nodes: &mut [u16],
-    ops: &mut [u16],
-) -> Stepped
+pub fn step(p: Place, k: Step, object: Object, nodes: &mut [u16], ops: &mut [u16]) -> Stepped
     requires row_value { (ended p.row ≡ false) × Inside p.operation.0 p.h p.t nodes.old }
-    requires has_cells { HasCells (event_at p head tail top nodes.old) p.operation.0 ops.old × Countable ops.old }
-    ensures step { IsStep p head tail top nodes.old result nodes.new }
-    ensures ops_after { cells ops.new ≡ counted (is_return result.row) (noted (event_at p head tail top nodes.old) p.operation.0 k.0 (cells ops.old)) }
+    requires has_cells { HasCells (event_at p object nodes.old) p.operation.0 ops.old × Countable ops.old }
+    ensures step { IsStep p object nodes.old result nodes.new }
+    ensures ops_after { cells ops.new ≡ counted (is_return result.row) (noted (event_at p object nodes.old) p.operation.0 k.0 (cells ops.old)) }
 {
-    let own = p.operation;
-    let here = p.row;
-    let e = table::row_of(here);
-    let a = e.access;
+    let e = table::row_of(p.row);
     let c = Scalars {
         h: p.h,
         t: p.t,
         n: p.n,
-        head,
-        tail,
-        top,
+        object,
     };
-    let d = perform(a, own, k, c, nodes, ops);
-    let outcome = d.outcome;
-    let row = successor(e, outcome);
+    let d = perform(e.access, p.operation, k, c, nodes, ops);
     Stepped {
-        row,
-        h: d.h,
-        t: d.t,
-        n: d.n,
-        head: d.head,
-        tail: d.tail,
-        top: d.top,
+        row: successor(e, d.outcome),
+        left: d.left,
     }
 }

@@ -236,24 +236,21 @@ const TWO_WAY_ROWS: [Entry; TWO_WAY_COUNT] = [
     },
 ];
 
-// The row at a position of the table, of the first 19.
+// The row at a position of the two constants, one after the other.
 fn entry(i: usize) -> Entry
-    requires { i < 19 }
+    requires { i < 36 }
     ensures { result ≡ entry_at i }
 {
-    ROWS[i]
-}
-
-// The row at a position behind those.
-fn two_way_entry(i: usize) -> Entry
-    requires { i < 17 }
-    ensures { result ≡ entry_at (19 + i) }
-{
-    TWO_WAY_ROWS[i]
+    if i < COUNT {
+        ROWS[i]
+    } else {
+        TWO_WAY_ROWS[i - COUNT]
+    }
 }
 
 // The table's row for where an operation stands that has not ended. Each position stands in its arm, so that compiled code knows
 // the entry by the row and looks nothing up.
+#[tactic(auto, using(crate::proofs::Rows::at_position), unfolding(machine::specs::Table::position, machine::specs::Table::ended, machine::specs::Table::end_of, machine::specs::Table::is_end))]
 pub fn row_of(r: Row) -> Entry
     requires { ended r ≡ false }
     ensures { result ≡ row_of r }
@@ -278,86 +275,47 @@ pub fn row_of(r: Row) -> Entry
         Row::R3 => entry(16),
         Row::R4 => entry(17),
         Row::R5 => entry(18),
-        Row::V1 => two_way_entry(0),
-        Row::V2 => two_way_entry(1),
-        Row::V3 => two_way_entry(2),
-        Row::V4 => two_way_entry(3),
-        Row::V5 => two_way_entry(4),
-        Row::V6 => two_way_entry(5),
-        Row::V7 => two_way_entry(6),
-        Row::V8 => two_way_entry(7),
-        Row::W1 => two_way_entry(8),
-        Row::W2 => two_way_entry(9),
-        Row::W3 => two_way_entry(10),
-        Row::W4 => two_way_entry(11),
-        Row::W5 => two_way_entry(12),
-        Row::W6 => two_way_entry(13),
-        Row::W7 => two_way_entry(14),
-        Row::W8 => two_way_entry(15),
-        Row::W9 => two_way_entry(16),
-        // no caller has one of these: an operation that has ended makes no step
-        Row::Done => entry(0),
-        Row::ItemN => entry(0),
-        Row::ItemT => entry(0),
-        Row::Empty => entry(0),
+        Row::V1 => entry(19),
+        Row::V2 => entry(20),
+        Row::V3 => entry(21),
+        Row::V4 => entry(22),
+        Row::V5 => entry(23),
+        Row::V6 => entry(24),
+        Row::V7 => entry(25),
+        Row::V8 => entry(26),
+        Row::W1 => entry(27),
+        Row::W2 => entry(28),
+        Row::W3 => entry(29),
+        Row::W4 => entry(30),
+        Row::W5 => entry(31),
+        Row::W6 => entry(32),
+        Row::W7 => entry(33),
+        Row::W8 => entry(34),
+        Row::W9 => entry(35),
+        // an operation that has ended makes no step
+        Row::Done | Row::ItemN | Row::ItemT | Row::Empty => unreachable!(),
     }
 }
 
 // Has an operation at this row ended?
+#[tactic(auto, unfolding(machine::specs::Table::ended, machine::specs::Table::end_of, machine::specs::Table::is_end))]
 pub fn has_ended(r: Row) -> bool
     ensures { result ≡ ended r }
 {
-    match r {
-        Row::Q1 => false,
-        Row::Q2 => false,
-        Row::Q3 => false,
-        Row::Q4 => false,
-        Row::Q5 => false,
-        Row::T1 => false,
-        Row::T2 => false,
-        Row::T3 => false,
-        Row::T4 => false,
-        Row::T5 => false,
-        Row::P1 => false,
-        Row::P2 => false,
-        Row::P3 => false,
-        Row::P4 => false,
-        Row::R1 => false,
-        Row::R2 => false,
-        Row::R3 => false,
-        Row::R4 => false,
-        Row::R5 => false,
-        Row::V1 => false,
-        Row::V2 => false,
-        Row::V3 => false,
-        Row::V4 => false,
-        Row::V5 => false,
-        Row::V6 => false,
-        Row::V7 => false,
-        Row::V8 => false,
-        Row::W1 => false,
-        Row::W2 => false,
-        Row::W3 => false,
-        Row::W4 => false,
-        Row::W5 => false,
-        Row::W6 => false,
-        Row::W7 => false,
-        Row::W8 => false,
-        Row::W9 => false,
-        Row::Done => true,
-        Row::ItemN => true,
-        Row::ItemT => true,
-        Row::Empty => true,
-    }
+    matches!(r, Row::Done | Row::ItemN | Row::ItemT | Row::Empty)
 }
 
 // The row where an operation begins.
+#[tactic(auto, unfolding(machine::specs::Table::first_row))]
 pub fn first_row(object: Kind, put: bool) -> Row
     ensures { result ≡ first_row object put }
 {
-    match object {
-        Kind::Queue => { if put { Row::Q1 } else { Row::T1 } }
-        Kind::Stack => { if put { Row::P1 } else { Row::R1 } }
-        Kind::TwoWay => { if put { Row::V1 } else { Row::W1 } }
+    match (object, put) {
+        (Kind::Queue, true) => Row::Q1,
+        (Kind::Queue, false) => Row::T1,
+        (Kind::Stack, true) => Row::P1,
+        (Kind::Stack, false) => Row::R1,
+        (Kind::TwoWay, true) => Row::V1,
+        (Kind::TwoWay, false) => Row::W1,
     }
 }

@@ -3,11 +3,12 @@ use Rattle.basics.specs.Choice.{pick}
 use Rattle.basics.proofs.Choice.{equal_same, unequal_same}
 use Rattle.machine.specs.Memory.{set_from_to}
 use Rattle.access.proofs.set_from_to.Goals as goal
-
-pub returns-then-a-b : goal.returns-then-a-b
-unfolding set_from_to pick
-returns-then-a-b c = rw (equal_same c.if-a-b.true)
+use Rattle.access.proofs.set_from_to.Goals.{then-held-b, else-held-b}
 
 pub returns : goal.returns
 unfolding set_from_to pick
-returns c = rw (unequal_same c.if-a-b.false)
+returns c =
+    (elim c.if-held-b.branch [
+      then-held-b w ↦ rw (w.a-is, equal_same w.if-held-b.true)
+    | else-held-b w ↦ rw (w.a-is, unequal_same w.if-held-b.false)
+    ], c.yes_if_same.ensures)

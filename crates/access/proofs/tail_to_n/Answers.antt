@@ -10,5 +10,5 @@ use Rattle.access.proofs.tail_to_n.Goals as goal
 pub returns : goal.returns
 unfolding access have_set reached_from reached_by memory_of event_of with_tail
 returns c = λ own nodes.
-    rw (c.answer.ensures, c.set_from_to.ensures, c.yes_if_same-outcome.ensures)
+    rw (c.answer.ensures, c.set_from_to-outcome.ensures.0, c.set_from_to-outcome.ensures.1)
     (record { reaches = refl; tells = refl })

@@ -1,11 +1,11 @@
--- `hands::begin` meets its contract. Assumes nothing.
+-- `Source::begin` meets its contract. Assumes nothing.
 use mathlib.Core.Path.{◌∙◌}
 use Rattle.machine.specs.Table.{first_row}
 use Rattle.machine.specs.Run.{before}
-use Rattle.hands.proofs.begin.Goals as goal
+use Rattle.hands.proofs.Source.begin.Goals as goal
 
 pub returns : goal.returns
 unfolding before
-returns c = let of = c.requires.2 in
-    let row = c.first_row-row.ensures ∙ (λ i. first_row (of i) (c.puts.ensures i)) in
+returns c =
+    let row = c.first_row.ensures ∙ (λ i. first_row (c.args.self.told i).object (c.puts.ensures i)) in
     λ i. record { operation = c.args.o; row = row i; h = 0; t = 0; n = 0 }
