@@ -6,14 +6,14 @@ ghost use Rattle.job.specs.Stream.{«record_at»};
 ghost use Rattle.job.specs.Job.{«job_of», heading_of};
 ghost use Rattle.machine.specs.Run.{before, «operation_after»};
 
-use job::{Heading, Operation, Process, is_put, owner};
+use job::{Heading, Operation, Process, Stream};
 use machine::Place;
 use table::first_row;
 
 // A job as its run reads it: the stream, and what the stream's header says, with every operation's record there.
 #[derive(Clone, Copy)]
 pub struct Source<'a> {
-    pub stream: &'a [u8],
+    pub stream: &'a Stream<'a>,
     pub heading: Heading,
     ghost told: { heading ≡ heading_of (job_of stream.now) },
     ghost whole: { record_at heading.count + 3 < length stream.now },
@@ -28,7 +28,7 @@ impl<'a> Source<'a> {
         if self.heading.count < o.0 {
             return false;
         }
-        is_put(self.stream, o)
+        self.stream.is_put(o)
     }
 
     // A place before the first step of an operation.
@@ -51,7 +51,7 @@ impl<'a> Source<'a> {
     {
         let count = self.heading.count;
         for i in o.0 + 1..count + 1 {
-            if owner(self.stream, Operation(i)) == p {
+            if self.stream.owner(Operation(i)) == p {
                 return Operation(i);
             }
         }
