@@ -17,7 +17,7 @@ ghost use Rattle.salvager.specs.Given.{given_length, given_kept, given_named};
 ghost use Rattle.salvager.specs.Saved.{Saved};
 
 use block::{BLOCK, PAYLOAD};
-use job::{Limits, Refusal, header, operations, schedule_length};
+use job::{Limits, Refusal, Stream};
 use memory::{clear, put_word};
 use reader::take_block;
 use writer::write;
@@ -47,11 +47,10 @@ fn gather(file: &[u8], count: usize, work: &mut [u8]) -> usize
 
 // Where the schedule of a stream begins: behind its header and its records.
 #[tactic(auto, unfolding(remains::specs::Kept::records_end))]
-fn records_end(s: &[u8]) -> usize
-    requires { 6 ≤ length s.now }
-    ensures { result ≡ records_end s.now }
+fn records_end(stream: &Stream) -> usize
+    ensures { result ≡ records_end stream.now }
 {
-    6 + 4 * usize::from(operations(s))
+    6 + 4 * usize::from(stream.operations())
 }
 
 // Shortens the schedule of a stream to the entries that are there: where it then ends.
@@ -60,8 +59,9 @@ fn shorten(s: &mut [u8]) -> usize
     ensures end { result ≡ records_end s.old + entries_kept s.old }
     ensures stream { take result s.new ≡ shortened s.old }
 {
-    let start = records_end(s);
-    let kept = usize::from(schedule_length(s)).min(s.len() - start);
+    let stream = Stream::over(s);
+    let start = records_end(&stream);
+    let kept = usize::from(stream.schedule_length()).min(s.len() - start);
     put_word(&mut s[4..], kept as u16);
     start + kept
 }
@@ -74,12 +74,13 @@ fn save(limits: Limits, s: &mut [u8], out: &mut [u8]) -> Result<Salvaged, Refusa
     if s.len() < 6 {
         return Err(Refusal::NotWhole);
     }
-    header(limits, s)?;
-    let start = records_end(s);
+    let stream = Stream::over(s);
+    stream.header(limits)?;
+    let start = records_end(&stream);
     if s.len() < start {
         return Err(Refusal::NotWhole);
     }
-    let named = schedule_length(s);
+    let named = stream.schedule_length();
     let end = shorten(s);
     let length = write(limits, &s[..end], out)?;
     Ok(Salvaged {
