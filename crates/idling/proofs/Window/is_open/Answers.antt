@@ -1,9 +1,9 @@
--- `idling::is_open` meets its contract: each window is a part of the condition. Assumes nothing.
+-- `idling::Window::is_open` meets its contract: each window is a part of the condition. Assumes nothing.
 use mathlib.Core.Path.{◌∙◌}
 use Rattle.windows.proofs.Tests.{or_met, or_missed}
 use Rattle.idling.specs.Minutes.{open_at}
-use Rattle.idling.proofs.is_open.Goals as goal
-use Rattle.idling.proofs.is_open.Goals.{then-holds, else-holds}
+use Rattle.idling.proofs.Window.is_open.Goals as goal
+use Rattle.idling.proofs.Window.is_open.Goals.{then-holds, else-holds}
 
 pub returns-then-holds-2 : goal.returns-then-holds-2
 unfolding open_at
