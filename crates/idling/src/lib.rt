@@ -30,7 +30,7 @@ const NOBODY: u8 = Limits::PROCESSES as u8;
 
 // The window of a process, as the day of the start sees it: is it booked on the day before, on that day, on the day after, and at which minutes does it
 // open and close, from the midnight of such a day?
-#[derive(Clone, Copy, PartialEq, Eq, Debug)]
+#[derive(Clone, Copy)]
 struct Window {
     yesterday: bool,
     today: bool,
@@ -99,23 +99,25 @@ fn holds(booked: bool, opens: u16, closes: u16, minute: u16) -> bool
     booked && (opens..closes).contains(&minute)
 }
 
-// Is a window open at a minute, counted from the midnight before the start? That of the day before may be, that of the day, or that of the day after.
-fn is_open(window: Window, minute: u16) -> bool
-    requires { (window.opens ≤ day_minutes) × (window.closes ≤ day_minutes + day_minutes) × (minute < day_minutes + day_minutes) }
-    ensures { result ≡ open_at window minute }
-{
-    holds(
-        window.yesterday,
-        window.opens,
-        window.closes,
-        minute + DAY_MINUTES,
-    ) || holds(window.today, window.opens, window.closes, minute)
-        || holds(
-            window.tomorrow,
-            window.opens + DAY_MINUTES,
-            window.closes + DAY_MINUTES,
-            minute,
-        )
+impl Window {
+    // Is it open at a minute, counted from the midnight before the start? That of the day before may be, that of the day, or that of the day after.
+    fn is_open(self, minute: u16) -> bool
+        requires { (self.opens ≤ day_minutes) × (self.closes ≤ day_minutes + day_minutes) × (minute < day_minutes + day_minutes) }
+        ensures { result ≡ open_at self minute }
+    {
+        holds(
+            self.yesterday,
+            self.opens,
+            self.closes,
+            minute + DAY_MINUTES,
+        ) || holds(self.today, self.opens, self.closes, minute)
+            || holds(
+                self.tomorrow,
+                self.opens + DAY_MINUTES,
+                self.closes + DAY_MINUTES,
+                minute,
+            )
+    }
 }
 
 // Which processes may act in a minute.
@@ -125,7 +127,7 @@ fn allowed_at(bookings: &Bookings, minute: u16) -> Allowed
 {
     let mut allowed = [false; Limits::PROCESSES];
     for (p, may) in allowed.iter_mut().enumerate() {
-        *may = is_open(bookings[p], minute);
+        *may = bookings[p].is_open(minute);
     }
     allowed
 }
@@ -169,7 +171,7 @@ fn shut_steps(bookings: &Bookings, second: u32, s: &mut [u8])
     let first = schedule_at(stream.operations()) + 1;
     let steps = usize::from(stream.schedule_length());
     let mut minute = (second / 60) as u16;
-    // counted by hand: behind a loop over `chunks_mut` the prover does not know what the stream holds
+    // counted by hand: behind a loop over `chunks_mut` the prover does not know what the stream holds, and the first minute may have fewer steps
     // the last step of the minute, and the last step that is done
     let mut end = (60 - second % 60) as usize;
     let mut done: usize = 0;

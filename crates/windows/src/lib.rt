@@ -144,5 +144,8 @@ fn bad_block(b: &[u8]) -> bool
 pub fn bad_windows(b: &[u8]) -> bool
     ensures { result ≡ bad_windows b.now }
 {
-    !b.is_empty() && (b.len() != BLOCK || bad_block(b))
+    if b.is_empty() {
+        return false;
+    }
+    b.len() != BLOCK || bad_block(b)
 }

@@ -14,12 +14,12 @@ bad_block-requires c = c.if-b-ne-BLOCK.false
 pub returns-then-b-ne-BLOCK : goal.returns-then-b-ne-BLOCK
 unfolding block_size same
 returns-then-b-ne-BLOCK c =
-    ap not (unequal_same c.if-b-ne-BLOCK.true) ∙ other_length _ (same_unequal (sym c.is_empty.ensures ∙ c.if-not-is_empty.true)) c.if-b-ne-BLOCK.true
+    ap not (unequal_same c.if-b-ne-BLOCK.true) ∙ other_length _ (same_unequal (sym c.is_empty.ensures ∙ c.if-is_empty.false)) c.if-b-ne-BLOCK.true
 
 pub returns-else-b-ne-BLOCK : goal.returns-else-b-ne-BLOCK
 unfolding block_size same
-returns-else-b-ne-BLOCK c = block_decides _ (same_unequal (sym c.is_empty.ensures ∙ c.if-not-is_empty.true)) c.if-b-ne-BLOCK.false c.bad_block.ensures
+returns-else-b-ne-BLOCK c = block_decides _ (same_unequal (sym c.is_empty.ensures ∙ c.if-is_empty.false)) c.if-b-ne-BLOCK.false c.bad_block.ensures
 
-pub returns-else-not-is_empty : goal.returns-else-not-is_empty
+pub returns-then-is_empty : goal.returns-then-is_empty
 unfolding same
-returns-else-not-is_empty c = ap not c.if-not-is_empty.false ∙ empty_passes _ (same_equal (sym c.is_empty.ensures ∙ c.if-not-is_empty.false))
+returns-then-is_empty c = empty_passes _ (same_equal (sym c.is_empty.ensures ∙ c.if-is_empty.true))
