@@ -4,9 +4,8 @@ use mathlib.Core.Logic.{◌≢◌, ⊎_elim}
 use Prim.Native.Nat.{ℕ, zero, suc, ◌-◌, ◌≤◌}
 use native.Mathlib.Omega.{arith}
 use mathlib.Core.Bool.{Bool, true, false}
-use mathlib.Core.List.{List, [], ◌∷◌, ◌++◌}
+use mathlib.Core.List.{List, [], ◌∷◌}
 use lib.ListN.{length}
-use Rattle.basics.specs.Choice.{pick, same}
 use Rattle.basics.proofs.Choice.{test_elim, split, pick_then, pick_else, equal_same, unequal_same}
 use Rattle.rows.specs.Nodes.{nexts, marks}
 use Rattle.job.specs.declared.Kind.{Kind}

@@ -4,12 +4,13 @@ use mathlib.Core.Logic.{◌≢◌, ⊎_elim}
 use Prim.Native.Nat.{ℕ, zero, suc, ◌≤◌, ◌<◌}
 use native.Mathlib.Omega.{arith}
 use mathlib.Core.Bool.{Bool}
-use mathlib.Core.List.{List, [], ◌∷◌, ◌++◌, append_assoc}
+use Rattle.std.specs.Prelude.{Option, Some, None}
+use mathlib.Core.List.{List, [], ◌∷◌, ◌++◌, append_assoc, append-nil}
 use Rattle.basics.specs.Choice.{pick, same}
 use Rattle.basics.specs.Maps.{at}
 use Rattle.basics.proofs.Choice.{pick_then, pick_else, pick_elim, test_elim, equal_same, unequal_same, same_unequal, split}
 use Rattle.rows.specs.Operations.{HasOps, Cells, cells, dropped_mark}
-use Rattle.rows.specs.Operations.Column.{Last, Start, Link, Taken, Stands}
+use Rattle.rows.specs.declared.OpColumn.TheVariants.{Last, Start, Link, Taken, Stands}
 use Rattle.job.specs.declared.Operation.{Operation}
 use Rattle.job.specs.Job.{Job}
 use Rattle.machine.specs.Multiplicity.{Line}
@@ -29,35 +30,35 @@ use Rattle.wording.specs.Report.{record_line, record_lines}
 use Rattle.text.proofs.Each.{each_to}
 use Rattle.journal.specs.Journal.{Agrees, Holds}
 use Rattle.lines.specs.declared.Found.{Found}
-use Rattle.lines.specs.declared.Found.TheVariants.{Nothing, Put, Takers, Empty}
+use Rattle.lines.specs.declared.Found.TheVariants.{Put, Takers, Empty}
 use Rattle.lines.specs.Members.{takers_of}
 use Rattle.lines.specs.Lines.{member, found_line}
-use Rattle.report.specs.Found.{here, found, line_at, found_lines, Within}
+use Rattle.report.specs.Found.{here, found, found_line_if, line_at, found_lines, Within}
 use Rattle.report.proofs.Facts.{item_operation, no_effect, ended_empty, maker_operation, idle_line}
 use Rattle.report.proofs.Endings.{Ends, ends}
 use Rattle.report.proofs.Endings.Ends.{stays_open, was_dropped, has_ended}
 
 -- what stands at its own step, there and elsewhere
-pub is_here : {own s : ℕ} (f : Found) → own ≡ s → f ≡ here own s f
+pub is_here : {own s : ℕ} (f : Found) → own ≡ s → Some f ≡ here own s f
 unfolding here
-is_here f e = sym (pick_then f Nothing (equal_same e))
+is_here f e = sym (pick_then (Some f) None (equal_same e))
 
-pub not_here : {own s : ℕ} (f : Found) → own ≢ s → Nothing ≡ here own s f
+pub not_here : {own s : ℕ} (f : Found) → own ≢ s → None ≡ here own s f
 unfolding here
-not_here f e = sym (pick_else f Nothing (unequal_same e))
+not_here f e = sym (pick_else (Some f) None (unequal_same e))
 
 -- what is found, by what was read in the row
 module _ (c : Cells) (s : ℕ) (o : Operation) where
-  pub found_idle : o.0 ≡ 0 → Nothing ≡ found c s o
+  pub found_idle : o.0 ≡ 0 → None ≡ found c s o
   unfolding found
-  found_idle z = sym (pick_then Nothing _ (equal_same z))
+  found_idle z = sym (pick_then None _ (equal_same z))
 
   module _ (acts : o.0 ≢ 0) {link : ℕ} (l : link ≡ c Link o.0) where
     pub found_put : link ≢ 0 → here link s (Put o) ≡ found c s o
     unfolding found
     found_put z =
         ap (λ (n : ℕ). here n s (Put o)) l
-        ∙ sym (pick_else Nothing _ (unequal_same acts) ∙ pick_else _ _ (unequal_same (λ y. z (l ∙ y))))
+        ∙ sym (pick_else None _ (unequal_same acts) ∙ pick_else _ _ (unequal_same (λ y. z (l ∙ y))))
 
     module _ (z : link ≡ 0) {item : ℕ} (t : item ≡ c Taken o.0) where
       pub found_takers : {stood : ℕ} → item ≢ 0 → stood ≡ c Stands item → here stood s (Takers (record { 0 = item })) ≡ found c s o
@@ -65,47 +66,52 @@ module _ (c : Cells) (s : ℕ) (o : Operation) where
       found_takers some e =
           ap (λ (n : ℕ). here n s (Takers (record { 0 = item }))) e
           ∙ ap (λ (n : ℕ). here (c Stands n) s (Takers (record { 0 = n }))) t
-          ∙ sym (pick_else Nothing _ (unequal_same acts) ∙ pick_then _ _ (equal_same (sym l ∙ z)) ∙ pick_else _ _ (unequal_same (λ y. some (t ∙ y))))
+          ∙ sym (pick_else None _ (unequal_same acts) ∙ pick_then _ _ (equal_same (sym l ∙ z)) ∙ pick_else _ _ (unequal_same (λ y. some (t ∙ y))))
 
-      found_bare : item ≡ 0 → pick (same (c Last o.0) 0) Nothing (pick (same (c Last o.0) dropped_mark) Nothing (here (c Start o.0) s (Empty o))) ≡ found c s o
+      found_bare : item ≡ 0 → pick (same (c Last o.0) 0) None (pick (same (c Last o.0) dropped_mark) None (here (c Start o.0) s (Empty o))) ≡ found c s o
       unfolding found
       found_bare y =
-          sym (pick_else Nothing _ (unequal_same acts) ∙ pick_then _ _ (equal_same (sym l ∙ z)) ∙ pick_then _ _ (equal_same (sym t ∙ y)))
+          sym (pick_else None _ (unequal_same acts) ∙ pick_then _ _ (equal_same (sym l ∙ z)) ∙ pick_then _ _ (equal_same (sym t ∙ y)))
 
-      pub found_open : {last : ℕ} → item ≡ 0 → last ≡ c Last o.0 → last ≡ 0 → Nothing ≡ found c s o
-      found_open y e x = sym (pick_then Nothing _ (equal_same (sym e ∙ x))) ∙ found_bare y
+      pub found_open : {last : ℕ} → item ≡ 0 → last ≡ c Last o.0 → last ≡ 0 → None ≡ found c s o
+      found_open y e x = sym (pick_then None _ (equal_same (sym e ∙ x))) ∙ found_bare y
 
       module _ {last : ℕ} (y : item ≡ 0) (e : last ≡ c Last o.0) (x : last ≢ 0) where
-        found_closed : pick (same (c Last o.0) dropped_mark) Nothing (here (c Start o.0) s (Empty o)) ≡ found c s o
-        found_closed = sym (pick_else Nothing _ (unequal_same (λ w. x (e ∙ w)))) ∙ found_bare y
+        found_closed : pick (same (c Last o.0) dropped_mark) None (here (c Start o.0) s (Empty o)) ≡ found c s o
+        found_closed = sym (pick_else None _ (unequal_same (λ w. x (e ∙ w)))) ∙ found_bare y
 
-        pub found_dropped : last ≡ dropped_mark → Nothing ≡ found c s o
-        found_dropped d = sym (pick_then Nothing _ (equal_same (sym e ∙ d))) ∙ found_closed
+        pub found_dropped : last ≡ dropped_mark → None ≡ found c s o
+        found_dropped d = sym (pick_then None _ (equal_same (sym e ∙ d))) ∙ found_closed
 
         pub found_empty : {start : ℕ} → last ≢ dropped_mark → start ≡ c Start o.0 → here start s (Empty o) ≡ found c s o
         found_empty m f =
             ap (λ (n : ℕ). here n s (Empty o)) f
-            ∙ sym (pick_else Nothing _ (unequal_same (λ w. m (e ∙ w))))
+            ∙ sym (pick_else None _ (unequal_same (λ w. m (e ∙ w))))
             ∙ found_closed
 
+-- who is found, 0 where nobody is
+abbrev member_if : Option Found → ℕ
+member_if None = 0
+member_if (Some f) = member f
+
 -- who is found is within the count
-member_within : (c : Cells) (s : ℕ) (o : Operation) (count : ℕ) → o.0 ≤ count → (1 ≤ o.0 → c Taken o.0 ≤ count) → member (found c s o) ≤ count
+member_within : (c : Cells) (s : ℕ) (o : Operation) (count : ℕ) → o.0 ≤ count → (1 ≤ o.0 → c Taken o.0 ≤ count) → member_if (found c s o) ≤ count
 unfolding found here member
 member_within c s o count low item =
-    pick_elim P (same o.0 0) Nothing _ (λ e. omega arith) (λ acts. let some : o.0 ≢ 0 = same_unequal acts in
-    pick_elim P (same (c Link o.0) 0) _ _ (λ e. pick_elim P (same (c Taken o.0) 0) _ _ (λ y. pick_elim P (same (c Last o.0) 0) Nothing _ (λ x. omega arith) (λ x. pick_elim P (same (c Last o.0) dropped_mark) Nothing _ (λ d. omega arith) (λ d. either (c Start o.0) (Empty o) low))) (λ y. either (c Stands (c Taken o.0)) (Takers (record { 0 = c Taken o.0 })) (item (omega (arith, some))))) (λ e. either (c Link o.0) (Put o) low))
+    pick_elim P (same o.0 0) None _ (λ e. omega arith) (λ acts. let some : o.0 ≢ 0 = same_unequal acts in
+    pick_elim P (same (c Link o.0) 0) _ _ (λ e. pick_elim P (same (c Taken o.0) 0) _ _ (λ y. pick_elim P (same (c Last o.0) 0) None _ (λ x. omega arith) (λ x. pick_elim P (same (c Last o.0) dropped_mark) None _ (λ d. omega arith) (λ d. either (c Start o.0) (Empty o) low))) (λ y. either (c Stands (c Taken o.0)) (Takers (record { 0 = c Taken o.0 })) (item (omega (arith, some))))) (λ e. either (c Link o.0) (Put o) low))
   where
-    P : Found → Type 0
-    P f = member f ≤ count
+    P : Option Found → Type 0
+    P f = member_if f ≤ count
 
-    either : (own : ℕ) (f : Found) → member f ≤ count → member (here own s f) ≤ count
-    either own f m = pick_elim P (same own s) f Nothing (λ e. m) (λ e. omega arith)
+    either : (own : ℕ) (f : Found) → member f ≤ count → member_if (here own s f) ≤ count
+    either own f m = pick_elim P (same own s) (Some f) None (λ e. m) (λ e. omega arith)
 
 -- the line of what is found is the effect's, if it stands at the step
-here_line : (taken : ℕ → ℕ) (count own s : ℕ) (f : Found) (line : Line) → found_line taken count s f ≡ record { step = s; line = line } ∷ [] → found_line taken count s (here own s f) ≡ if_at s (stands own line)
-unfolding here if_at found_line pick
+here_line : (taken : ℕ → ℕ) (count own s : ℕ) (f : Found) (line : Line) → found_line taken count s f ≡ record { step = s; line = line } → found_line_if taken count s (here own s f) ≡ if_at s (stands own line)
+unfolding here if_at found_line_if pick
 here_line taken count own s f line e =
-    test_elim (λ (t : Bool). found_line taken count s (pick t f Nothing) ≡ pick t (record { step = s; line = line } ∷ []) []) (same own s) (λ y. e) (λ y. refl)
+    test_elim (λ (t : Bool). found_line_if taken count s (pick t (Some f) None) ≡ pick t (record { step = s; line = line } ∷ []) []) (same own s) (λ y. ap (λ r. r ∷ []) e) (λ y. refl)
 
 -- the takers by the rows are the item's takers
 takers_held : (j : Job) (k : ℕ) {c : Cells} → Agrees j k c → (item : ℕ) → takers_of (c Taken) j.count item ≡ takers (note j) j.count k item
@@ -116,15 +122,15 @@ takers_held j k {c} h item =
 module _ (j : Job) (k s : ℕ) {c : Cells} (h : Agrees j k c) (o : Operation) (op : IsOperation j.count o.0) where
   -- the line that the row gives is the effect's
   abbrev Right : Type 0
-  Right = found_line (c Taken) j.count s (found c s o) ≡ if_at s (effect j.object (note j) j.count k o.0)
+  Right = found_line_if (c Taken) j.count s (found c s o) ≡ if_at s (effect j.object (note j) j.count k o.0)
 
   acts : o.0 ≢ 0
   acts z = omega (arith, op.from_one)
 
   -- by what the row gives, and by the effect
-  lines_agree : {f : Found} {e : Effect} → f ≡ found c s o → effect j.object (note j) j.count k o.0 ≡ e → found_line (c Taken) j.count s f ≡ if_at s e → Right
+  lines_agree : {f : Option Found} {e : Effect} → f ≡ found c s o → effect j.object (note j) j.count k o.0 ≡ e → found_line_if (c Taken) j.count s f ≡ if_at s e → Right
   lines_agree a b same =
-      ap (found_line (c Taken) j.count s) (sym a) ∙ same ∙ sym (ap (if_at s) b)
+      ap (found_line_if (c Taken) j.count s) (sym a) ∙ same ∙ sym (ap (if_at s) b)
 
   linked : c Link o.0 ≢ 0 → Right
   unfolding found_line
@@ -156,7 +162,7 @@ module _ (j : Job) (k s : ℕ) {c : Cells} (h : Agrees j k c) (o : Operation) (o
 
       -- by its ending: one that was dropped is not found empty
       bare : {n : ℕ} → Ends j k o.0 n → c Last o.0 ≡ n → Right
-      unfolding found_line if_at
+      unfolding found_line found_line_if if_at
       bare (stays_open z d) e = lines_agree (found_open c s o acts refl l refl t refl e) (no_effect j k o.0 no_link no_item z) refl
       bare (was_dropped z d) e =
           lines_agree (found_dropped c s o acts refl l refl t refl (λ y. let never : dropped_mark ≡ 0 = sym e ∙ y in omega arith) e) (no_effect j k o.0 no_link no_item z) refl
@@ -178,7 +184,7 @@ module _ (j : Job) {k : ℕ} {ops by : List ℕ} (h : Holds j k ops by) where
 
   module _ (short : k < dropped_mark) where
     line_held : (s : ℕ) → 1 ≤ s → s ≤ k → line_at (cells ops) (at by) j.count s ≡ run_line j k s
-    unfolding Record.line_at found_line
+    unfolding Record.line_at found_line_if
     line_held s low high = ⊎_elim idle acted (split (at by s) 0)
       where
         maker : at by s ≡ (note j s).by
@@ -186,7 +192,7 @@ module _ (j : Job) {k : ℕ} {ops by : List ℕ} (h : Holds j k ops by) where
 
         idle : at by s ≡ 0 → line_at (cells ops) (at by) j.count s ≡ run_line j k s
         idle z =
-            ap (found_line (cells ops Taken) j.count s) (sym (found_idle (cells ops) s (record { 0 = at by s }) z))
+            ap (found_line_if (cells ops Taken) j.count s) (sym (found_idle (cells ops) s (record { 0 = at by s }) z))
             ∙ sym (idle_line j k s low high (sym maker ∙ z))
 
         acted : at by s ≢ 0 → line_at (cells ops) (at by) j.count s ≡ run_line j k s
@@ -225,9 +231,18 @@ module _ {ops by : List ℕ} {count reach : ℕ} (w : Within ops by count reach)
   row_there low high =
       (omega (arith, w.makers s low high, w.has_ops), λ some. omega (arith, w.has_ops, w.items (at by s) some (w.makers s low high)))
 
-  pub member_found : {f : Found} → 1 ≤ s → s ≤ reach → f ≡ found (cells ops) s (record { 0 = at by s }) → member f ≤ count
+  pub member_found : {f : Found} → 1 ≤ s → s ≤ reach → Some f ≡ found (cells ops) s (record { 0 = at by s }) → member f ≤ count
+  unfolding member
   member_found low high e =
-      subst (λ (f : Found). member f ≤ count) (sym e) (member_within (cells ops) s (record { 0 = at by s }) count (w.makers s low high) (λ some. w.items (at by s) some (w.makers s low high)))
+      subst (λ (f : Option Found). member_if f ≤ count) (sym e) (member_within (cells ops) s (record { 0 = at by s }) count (w.makers s low high) (λ some. w.items (at by s) some (w.makers s low high)))
 
-  pub line_found : {f : Found} → f ≡ found (cells ops) s (record { 0 = at by s }) → record_lines (found_line (cells ops Taken) count s f) ≡ step_text (cells ops) (at by) count s
-  line_found e = ap (λ (f : Found). record_lines (found_line (cells ops Taken) count s f)) e
+  pub line_found : {f : Found} {same : List ℕ} → same ≡ ops → Some f ≡ found (cells ops) s (record { 0 = at by s }) → record_line (found_line (cells same Taken) count s f) ≡ step_text (cells ops) (at by) count s
+  unfolding found_line_if record_lines
+  line_found {f} is e =
+      ap (λ (l : List ℕ). record_line (found_line (cells l Taken) count s f)) is
+      ∙ sym (append-nil _)
+      ∙ ap (λ (f : Option Found). record_lines (found_line_if (cells ops Taken) count s f)) e
+
+  pub nothing_found : None ≡ found (cells ops) s (record { 0 = at by s }) → step_text (cells ops) (at by) count s ≡ []
+  unfolding found_line_if record_lines
+  nothing_found e = sym (ap (λ (f : Option Found). record_lines (found_line_if (cells ops Taken) count s f)) e)

@@ -9,7 +9,7 @@ use Rattle.basics.specs.Choice.{pick, same}
 use Rattle.basics.specs.Text.{text, decimal}
 use Rattle.basics.proofs.Choice.{split}
 use Rattle.rows.specs.Operations.{HasOps, Cells, cells, dropped_mark}
-use Rattle.rows.specs.Operations.Column.{First, Last, Link, Taken}
+use Rattle.rows.specs.declared.OpColumn.TheVariants.{First, Last, Link, Taken}
 use Rattle.job.specs.Stream.{record_at, stream_length, HasRecord}
 use Rattle.job.specs.Job.{Job, job_of}
 use Rattle.machine.specs.Notes.{note}

@@ -1,14 +1,19 @@
 -- What a run leaves gives each part of its report, and the parts are the whole. Assumes nothing.
 use mathlib.Core.Path.{◌≡◌, refl, sym, ap, subst, ◌∙◌}
-use Prim.Native.Nat.{ℕ, ◌<◌}
+use Prim.Native.Nat.{ℕ, ◌+◌, ◌≤◌, ◌<◌}
 use native.Mathlib.Nat.{zero-add}
 use native.Mathlib.Omega.{arith}
 use mathlib.Core.List.{List, ◌++◌, append_assoc}
-use lib.ListN.{length}
+use lib.ListN.{length, take}
+use lib.Seq.{length-take-le}
 use Rattle.basics.specs.Maps.{at}
 use Rattle.rows.specs.Nodes.{HasNodes}
 use Rattle.rows.specs.Operations.{cells, dropped_mark}
-use Rattle.text.specs.Laid.{Wrote}
+use Rattle.text.specs.Laid.{laid}
+use Rattle.text.specs.declared.Page.{Page}
+use Rattle.std.specs.Borrow.{MutBor}
+use Rattle.text.specs.Pages.{Opens, HasRoom, Wrote}
+use Rattle.text.proofs.Pages.{room_of, within}
 use Rattle.job.specs.declared.Heading.{Heading}
 use Rattle.job.specs.Job.{Job, heading_of}
 use Rattle.machine.specs.declared.Finish.{Finish}
@@ -70,5 +75,17 @@ parts {j} {h} {ops} {by} {nodes} {end} l first =
     subst (Parts j h ops by nodes end.reach.0 end.lost) (sym first)
     (subst (λ (x : Heading). Parts j x ops by nodes end.reach.0 end.lost (first_node x.object nodes end.head end.top x.count)) (sym l.heading) (parts_of_job j (subst (λ (x : Heading). Leaves j x ops by nodes end) l.heading l)))
 
-pub reported : {before after bytes : List ℕ} {told : ℕ} → Wrote before after 0 told bytes → Reported before after told bytes
-reported {bytes} w = record { writes = w.lays; tells = w.behind ∙ zero-add (length bytes) }
+-- a page on a memory as long as the report has room for its parts
+pub room_there : {j : Job} {h : Heading} {ops by nodes : List ℕ} {reach lost node : ℕ} {memory : MutBor (List ℕ)} {p : Page} → Parts j h ops by nodes reach lost node → Opens memory p → length (report j) ≤ length memory.now → HasRoom p (object_line h.object ++ operation_lines j j.steps h.count ++ record_lines (found_lines (cells ops) (at by) h.count reach) ++ (lost_line h.object lost ++ left_line (left_from h.object nodes node h.count)))
+room_there all opens room =
+    room_of all.whole (record { room = omega (arith, opens.start, ap length opens.blank, room) })
+
+-- a page that was begun on a memory, and is given back, tells what it holds
+pub reported : {p q : Page} {memory : MutBor (List ℕ)} {after shown text bytes : List ℕ} → Opens memory p → Wrote p q text → text ≡ bytes → after ≡ q.memory.now → shown ≡ take q.at q.memory.now → Reported memory.now after (length shown) bytes
+reported {p} {q} {memory} {shown = shown} {text = text} opens w e back all =
+    let end : q.at ≡ length text = w.behind ∙ ap (λ (n : ℕ). n + length text) opens.start ∙ zero-add (length text) in
+    let told : length shown ≡ length text = ap length all ∙ length-take-le q.at q.memory.now (within w) ∙ end in
+    record {
+      writes = back ∙ w.lays ∙ ap (λ (n : ℕ). laid p.memory.now n text) opens.start ∙ ap (λ (m : List ℕ). laid m 0 text) opens.blank ∙ ap (laid memory.now 0) e;
+      tells = told ∙ ap length e;
+    }

@@ -1,32 +1,37 @@
 -- What stands at a step, by the row of the operation that made it.
-use Rattle.std.specs.Prelude.{ℕ, zero, suc, ◌≤◌, ◌<◌, List, [], ◌++◌, length}
+use Rattle.std.specs.Prelude.{ℕ, zero, suc, ◌≤◌, ◌<◌, List, [], ◌∷◌, ◌++◌, length, Option, Some, None}
 use Rattle.basics.specs.Choice.{pick, same}
 use Rattle.basics.specs.Maps.{at}
 use Rattle.rows.specs.Operations.{HasOps, Cells, cells, dropped_mark}
-use Rattle.rows.specs.Operations.Column.{Last, Start, Link, Taken, Stands}
+use Rattle.rows.specs.declared.OpColumn.TheVariants.{Last, Start, Link, Taken, Stands}
 use Rattle.job.specs.declared.Operation.{Operation}
 use Rattle.machine.specs.Record.{Recorded}
 use Rattle.lines.specs.declared.Found.{Found}
-use Rattle.lines.specs.declared.Found.TheVariants.{Nothing, Put, Takers, Empty}
+use Rattle.lines.specs.declared.Found.TheVariants.{Put, Takers, Empty}
 use Rattle.lines.specs.Lines.{found_line}
 
 -- what stands at its own step stands at step s if this is the one
-unfoldable pub here : ℕ → ℕ → Found → Found
-here own s f = pick (same own s) f Nothing
+unfoldable pub here : ℕ → ℕ → Found → Option Found
+here own s f = pick (same own s) (Some f) None
 
 -- what stands at step s, made by operation o, 0 if nobody made it: "Put: its changing Q3 or P3." A take: the line of its item. "Empty: its
 -- last T1, or the R1 that read none." Document 02, request 3: "at the changing V4, at W2 for empty"
-unfoldable pub found : Cells → ℕ → Operation → Found
+unfoldable pub found : Cells → ℕ → Operation → Option Found
 found c s o =
-    let ended : Found = pick (same (c Last o.0) dropped_mark) Nothing (here (c Start o.0) s (Empty o)) in
-    let empty : Found = pick (same (c Last o.0) 0) Nothing ended in
-    let takers : Found = here (c Stands (c Taken o.0)) s (Takers (record { 0 = c Taken o.0 })) in
-    pick (same o.0 0) Nothing
+    let ended : Option Found = pick (same (c Last o.0) dropped_mark) None (here (c Start o.0) s (Empty o)) in
+    let empty : Option Found = pick (same (c Last o.0) 0) None ended in
+    let takers : Option Found = here (c Stands (c Taken o.0)) s (Takers (record { 0 = c Taken o.0 })) in
+    pick (same o.0 0) None
     (pick (same (c Link o.0) 0) (pick (same (c Taken o.0) 0) empty takers) (here (c Link o.0) s (Put o)))
+
+-- the line of what was found, if anything was
+unfoldable pub found_line_if : (ℕ → ℕ) → ℕ → ℕ → Option Found → List Recorded
+found_line_if taken count s None = []
+found_line_if taken count s (Some f) = found_line taken count s f ∷ []
 
 -- the line of a step, if there is one
 abbrev pub line_at : Cells → (ℕ → ℕ) → ℕ → ℕ → List Recorded
-line_at c by count s = found_line (c Taken) count s (found c s (record { 0 = by s }))
+line_at c by count s = found_line_if (c Taken) count s (found c s (record { 0 = by s }))
 
 -- the lines at steps 1 to s
 unfoldable pub found_lines : Cells → (ℕ → ℕ) → ℕ → ℕ → List Recorded

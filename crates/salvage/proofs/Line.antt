@@ -4,7 +4,11 @@ use Rattle.std.specs.Bool.{OnTrue}
 use Rattle.std.specs.Io.KnownBytes.{Appends}
 use Rattle.basics.specs.Text.{text}
 use Rattle.basics.proofs.Text.{decimal_length}
-use Rattle.text.specs.Laid.{laid, Wrote}
+use Rattle.std.specs.Borrow.{MutBor}
+use Rattle.std.proofs.Math.Seq.{take_all}
+use Rattle.text.specs.Laid.{laid}
+use Rattle.text.specs.declared.Page.{Page}
+use Rattle.text.specs.Pages.{Opens, Wrote}
 use Rattle.remains.specs.Line.{kept_line}
 use Rattle.console.specs.Said.{Shown}
 
@@ -14,12 +18,15 @@ unfolding text kept_line
 line_length a b small_a small_b =
     simp length-append (omega (arith, decimal_length 4 a (omega arith), decimal_length 4 b (omega arith)))
 
--- what was written to the front of a memory stands there
-written_front : (before after : List ℕ) (n : ℕ) (bytes : List ℕ) → Wrote before after 0 n bytes → take n after ≡ bytes
+-- what was written on a page that was begun stands there
+pub written_front : {p q : Page} {memory : MutBor (List ℕ)} {bytes : List ℕ} → Opens memory p → Wrote p q bytes → take q.at q.memory.now ≡ bytes
 unfolding laid
-written_front before after n bytes w = ap (take n) w.lays ∙ take_at bytes (drop (0 + length bytes) before) n (sym (w.behind ∙ omega arith))
+written_front {p} {q} {bytes = bytes} opens w =
+    ap (take q.at) (w.lays ∙ ap (λ (n : ℕ). laid p.memory.now n bytes) opens.start)
+    ∙ take_at bytes (drop (0 + length bytes) p.memory.now) q.at (sym (w.behind ∙ omega (arith, opens.start)))
 
--- what is shown of such a memory
-pub told : (whole : Bool) (held holds : Option (List ℕ)) (before after : List ℕ) (n : ℕ) (bytes : List ℕ) → Wrote before after 0 n bytes → OnTrue whole (Shown held holds after n) → OnTrue whole (Appends held holds bytes)
-told true held holds before after n bytes w s = subst (Appends held holds) (written_front before after n bytes w) s.1
-told false held holds before after n bytes w s = tt
+-- what is shown of it, whole
+pub told : (whole : Bool) (held holds : Option (List ℕ)) {shown bytes : List ℕ} → shown ≡ bytes → OnTrue whole (Shown held holds shown (length shown)) → OnTrue whole (Appends held holds bytes)
+told true held holds {shown} e s =
+    subst (Appends held holds) (take_all (length shown) shown (omega arith) ∙ e) s.1
+told false held holds e s = tt

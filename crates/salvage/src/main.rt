@@ -3,27 +3,26 @@
 #![tactic(auto)]
 
 ghost use Rattle.std.specs.Bool.{OnTrue};
-ghost use Rattle.std.specs.Prelude.{◌≤◌, length};
 ghost use Rattle.std.specs.Io.KnownBytes.{Appends};
-ghost use Rattle.text.specs.Laid.{Wrote};
+ghost use Rattle.text.specs.Pages.{HasRoom, Wrote};
 ghost use Rattle.remains.specs.Line.{kept_line};
 
 use console::{read_full, refuse, show};
 use job::Limits;
 use std::io::Write;
-use text::{put_bytes, put_labelled};
+use text::Page;
 
 // Room for the line: its words have 18 bytes, and each of its two numbers at most five digits.
 const LINE: usize = 28;
 
 // The line on the entries that are kept, of those that the header names.
-fn put_line(to: &mut [u8], kept: u16, named: u16) -> usize
-    requires { length (kept_line kept named) ≤ length to.old }
-    ensures { Wrote to.old to.new 0 result (kept_line kept named) }
+fn put_line(page: &mut Page, kept: u16, named: u16)
+    requires { HasRoom page.old (kept_line kept named) }
+    ensures { Wrote page.old page.new (kept_line kept named) }
 {
-    let at = put_labelled(to, 0, b"kept ", kept);
-    let next = put_labelled(to, at, b" of ", named);
-    put_bytes(to, next, b" entries\n")
+    page.put_labelled(b"kept ", kept);
+    page.put_labelled(b" of ", named);
+    page.put_bytes(b" entries\n");
 }
 
 // Says it, and whether it was written whole.
@@ -31,8 +30,10 @@ fn tell<W: Write>(to: &mut W, kept: u16, named: u16) -> bool
     ensures { OnTrue result (Appends (W.contents to.old) (W.contents to.new) (kept_line kept named)) }
 {
     let mut line = [0u8; LINE];
-    let length = put_line(&mut line, kept, named);
-    show(to, &line, length)
+    let mut page = Page::new(&mut line);
+    put_line(&mut page, kept, named);
+    let said = page.written();
+    show(to, said, said.len())
 }
 
 // No more is read than the longest file has, since nothing behind it matters. The line is written only behind a file that was written whole.

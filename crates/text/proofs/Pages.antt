@@ -18,6 +18,10 @@ wrote_nothing {p} h =
 pub as_long : {p q : Page} {a : List ℕ} → Wrote p q a → length q.memory.now ≡ length p.memory.now
 as_long {p} {q} {a} w = ap length w.lays ∙ length_laid p.memory.now p.at a w.fits.room
 
+-- and what was written is within it
+pub within : {p q : Page} {a : List ℕ} → Wrote p q a → q.at ≤ length q.memory.now
+within w = omega (arith, w.behind, w.fits.room, as_long w)
+
 pub wrote_then : {p q r : Page} {a b : List ℕ} → Wrote p q a → Wrote q r b → Wrote p r (a ++ b)
 wrote_then {p} {q} {r} {a} {b} v w =
     let both : length (a ++ b) ≡ length a + length b = length-append a b in

@@ -5,6 +5,7 @@ ghost use Rattle.std.specs.Prelude.{◌≡◌, ◌≤◌, [], ◌∷◌, ◌++�
 ghost use Rattle.basics.specs.Text.{decimal};
 
 // Lent memory that is written from its front on.
+#[derive(Drop)]
 pub struct Page<'a> {
     memory: &'a mut [u8],
     // where the next byte goes

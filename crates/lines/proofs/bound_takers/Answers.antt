@@ -1,6 +1,6 @@
 -- `lines::bound_takers` meets its contract. Assumes nothing.
 use native.Mathlib.Omega.{arith}
-use Rattle.lines.proofs.Bounds.{bounded_none, bounded_more, bounded_all, item_within}
+use Rattle.lines.proofs.Bounds.{bounded_more}
 use Rattle.std.proofs.Common.{rules}
 use Rattle.lines.proofs.bound_takers.Goals as goal
 

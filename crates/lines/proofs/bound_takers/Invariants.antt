@@ -1,6 +1,4 @@
 -- `lines::bound_takers` meets its contract. The loop's invariant: the bounds by `o` operations from either end. Assumes nothing.
-use mathlib.Core.Path.{◌≡◌}
-use lib.ListN.{length}
 use Rattle.lines.proofs.Bounds.{Bounded}
 use Rattle.lines.proofs.bound_takers.Given as goal
 

@@ -1,5 +1,4 @@
 -- `lines::put_at` meets its contract. Assumes nothing.
-use mathlib.Core.Path.{refl}
 use Rattle.basics.specs.Text.{text}
 use Rattle.basics.specs.Text.{decimal}
 use mathlib.Core.List.{◌++◌}

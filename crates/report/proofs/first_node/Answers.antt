@@ -5,12 +5,12 @@ use Rattle.report.proofs.first_node.Goals as goal
 
 pub returns-in-Queue : goal.returns-in-Queue
 unfolding first_node
-returns-in-Queue c = let start = c.args in c.cell.ensures ∙ sym (ap (λ object. first_node object start.nodes.now start.head start.top start.count) c.in-Queue.is)
+returns-in-Queue c = c.cell.ensures ∙ sym (ap (λ object. first_node object c.args.nodes.now c.args.head c.args.top c.args.count) c.in-Queue.is)
 
 pub returns-in-Stack : goal.returns-in-Stack
 unfolding first_node
-returns-in-Stack c = let start = c.args in sym (ap (λ object. first_node object start.nodes.now start.head start.top start.count) c.in-Stack.is)
+returns-in-Stack c = sym (ap (λ object. first_node object c.args.nodes.now c.args.head c.args.top c.args.count) c.in-Stack.is)
 
 pub returns-in-TwoWay : goal.returns-in-TwoWay
 unfolding first_node
-returns-in-TwoWay c = let start = c.args in c.uppermost.ensures ∙ sym (ap (λ object. first_node object start.nodes.now start.head start.top start.count) c.in-TwoWay.is)
+returns-in-TwoWay c = c.uppermost.ensures ∙ sym (ap (λ object. first_node object c.args.nodes.now c.args.head c.args.top c.args.count) c.in-TwoWay.is)

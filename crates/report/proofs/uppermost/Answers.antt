@@ -1,5 +1,4 @@
--- `report::uppermost` meets its contract. The loop's invariant: from node `i` on the climb ends where the whole one does. The measure is
--- how many uppers may still come. Assumes nothing.
+-- `report::uppermost` meets its contract. Assumes nothing.
 use Rattle.report.proofs.Climb.{climbing_none, at_top, at_last, climbing_more}
 use Rattle.std.proofs.Common.{rules}
 use Rattle.report.proofs.uppermost.Goals as goal

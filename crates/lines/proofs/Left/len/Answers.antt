@@ -1,5 +1,4 @@
 -- `lines::Left::len` meets its contract. Assumes nothing.
-use mathlib.Core.Path.{◌≡◌}
 use mathlib.Core.Logic.{inl}
 use Prim.Native.Nat.{◌≤◌}
 use native.Mathlib.Omega.{arith}

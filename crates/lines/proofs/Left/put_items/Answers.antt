@@ -1,6 +1,5 @@
 -- `lines::Left::put_items` meets its contract. Assumes nothing.
-use mathlib.Core.Path.{sym, ap, ◌∙◌}
-use Rattle.basics.specs.Text.{text}
+use mathlib.Core.Path.{sym, ap}
 use Rattle.text.proofs.Pages.{room_same, wrote_as}
 use Rattle.text.proofs.Rest.{rest_all, rest_room, rest_less}
 use Rattle.wording.specs.Report.{spaced}

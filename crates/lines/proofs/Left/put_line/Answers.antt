@@ -1,7 +1,4 @@
 -- `lines::Left::put_line` meets its contract. Assumes nothing.
-use mathlib.Core.Path.{ap, sym}
-use mathlib.Core.List.{List}
-use Prim.Native.Nat.{ℕ}
 use Rattle.basics.specs.Text.{text}
 use Rattle.text.proofs.Pages.{room_first, room_then, room_of, room_rest, wrote_then, wrote_both}
 use Rattle.lines.proofs.Pieces.{left_pieces}

@@ -1,7 +1,7 @@
 -- `lines::Takers::put_takers` meets its contract. Assumes nothing.
 use mathlib.Core.Path.{refl}
 use native.Mathlib.Omega.{arith}
-use Rattle.lines.specs.declared.BoundColumn.TheVariants.{Skip, Beyond}
+use Rattle.lines.specs.declared.BoundColumn.TheVariants.{Skip}
 use Rattle.text.proofs.Pages.{room_of, wrote_as}
 use Rattle.text.proofs.Each.{written_none, written_room, written_more, written_same, written_all}
 use Rattle.lines.proofs.Bounds.{skipped, past_bound}
@@ -18,8 +18,8 @@ put_spaced-requires c = room_of (taker_in _ _ c.cell-in-loop-before.ensures c.if
 pub loop-before-preserved : goal.loop-before-preserved
 loop-before-preserved c =
     elim c.if-cell-item.branch [
-      then-cell-item w ↦ rw w.page-is (written_more c.loop-before.invariant (omega arith) (wrote_as (taker_in _ _ c.cell-in-loop-before.ensures w.if-cell-item.true) w.put_spaced.ensures))
-    | else-cell-item w ↦ rw w.page-is (written_same c.loop-before.invariant (omega arith) (taker_out _ _ c.cell-in-loop-before.ensures w.if-cell-item.false))
+      | then-cell-item w ↦ rw w.page-is (written_more c.loop-before.invariant (omega arith) (wrote_as (taker_in _ _ c.cell-in-loop-before.ensures w.if-cell-item.true) w.put_spaced.ensures))
+      | else-cell-item w ↦ rw w.page-is (written_same c.loop-before.invariant (omega arith) (taker_out _ _ c.cell-in-loop-before.ensures w.if-cell-item.false))
     ]
 
 pub returns : goal.returns
