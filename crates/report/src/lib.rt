@@ -192,7 +192,7 @@ pub fn write_report(
 {
     let object = h.object;
     let reach = end.reach;
-    let node = first_node(object, nodes, end.head, end.top, h.count);
+    let node = first_node(object, nodes, end.object.head, end.object.top, h.count);
     let place = object_line(out, 0, object);
     let place = operation_lines(out, place, stream, ops, h.count);
     let place = record_lines(out, place, ops, by, h.count, reach);
