@@ -13,6 +13,9 @@ use job::Operation;
 use machine::{Event, Object, Outcome};
 use rows::{NodeColumn, cell, store};
 
+// What cells and registers hold. They are numbers and no enums, since a cell is a u16 of lent memory, whatever its column; and none,
+// clear and live are 0, since fresh memory is all zeros (`fresh_memory`, crates/machine/specs/Memory.antt).
+
 // no node
 const NONE: u16 = 0;
 

@@ -32,6 +32,11 @@ use Rattle.journal.specs.Stored.{earlier, entered, noted, closed}
 use Rattle.journal.specs.Journal.{ending, held, Agrees}
 
 module _ (j : Job) where
+  -- a column after a store is that of k steps if the value stored is, and if every other row's was
+  column_stored : (k : ℕ) (c : Cells) (f : OpColumn) (o v q : ℕ) → (q ≡ o → v ≡ held j k f o) → (q ≢ o → c f q ≡ held j k f q) → upd (c f) o v q ≡ held j k f q
+  column_stored k c f o v q own others =
+      upd_elim (λ x. x ≡ held j k f q) (c f) o v q (λ here. own here ∙ ap (held j k f) (sym here)) others
+
   -- the end of an operation that a step does not drop
   ending_kept : (k o : ℕ) → dropped j (suc k) ≢ o → last (note j) (suc k) o ≡ last (note j) k o → ending j (suc k) o ≡ ending j k o
   ending_kept k o n l = ap₂ (λ x y. pick (same x 0) y dropped_mark) (drop_other j o k n) l
@@ -115,23 +120,17 @@ module _ (j : Job) where
 
     taken_stored : (n : ℕ) → Sounding heard → item_of heard ≡ n → (q : ℕ) → IsOperation j.count q → upd (c Taken) o n q ≡ taken (note j) (suc k) q
     taken_stored n s e q op =
-        upd_elim (λ x. x ≡ taken (note j) (suc k) q) (c Taken) o n q
-        (λ here. took_now n s e (split n 0) ∙ ap (taken (note j) (suc k)) (sym here))
-        (λ there. a Taken q op ∙ sym (taken_other (note j) k q (other there)))
+        column_stored (suc k) c Taken o n q (λ here. took_now n s e (split n 0)) (λ there. a Taken q op ∙ sym (taken_other (note j) k q (other there)))
 
     start_stored : heard ≡ Round → (q : ℕ) → IsOperation j.count q → upd (c Start) o (suc k) q ≡ start (note j) (suc k) q
     start_stored e q op =
-        upd_elim (λ x. x ≡ start (note j) (suc k) q) (c Start) o (suc k) q
-        (λ here. sym (start_new (note j) k o acts.by e) ∙ ap (start (note j) (suc k)) (sym here))
-        (λ there. a Start q op ∙ sym (start_other (note j) k q (other there)))
+        column_stored (suc k) c Start o (suc k) q (λ here. sym (start_new (note j) k o acts.by e)) (λ there. a Start q op ∙ sym (start_other (note j) k q (other there)))
 
     link_stored : heard ≡ Linked → (q : ℕ) → IsOperation j.count q → upd (c Link) o (suc k) q ≡ link (note j) (suc k) q
     unfolding deeds
     link_stored e q op =
         let g : Going (deeds (note j) k o) = before_sound (course j) k o acts (subst Sounding (sym e) tt) in
-        upd_elim (λ x. x ≡ link (note j) (suc k) q) (c Link) o (suc k) q
-        (λ here. sym (link_new (note j) k o acts.by e g.no_link) ∙ ap (link (note j) (suc k)) (sym here))
-        (λ there. a Link q op ∙ sym (link_other (note j) k q (other there)))
+        column_stored (suc k) c Link o (suc k) q (λ here. sym (link_new (note j) k o acts.by e g.no_link)) (λ there. a Link q op ∙ sym (link_other (note j) k q (other there)))
 
     -- where Head moved to an item
     moved_here : (n : ℕ) → heard ≡ Moved n → IsOperation j.count n → earlier (c Stands n) (suc k) ≡ takes_at j.object (note j) j.count (suc k) n
@@ -144,21 +143,18 @@ module _ (j : Job) where
     moved_stored : (n : ℕ) → heard ≡ Moved n → (item : ℕ) → IsOperation j.count item → upd (c Stands) n (earlier (c Stands n) (suc k)) item ≡ takes_at j.object (note j) j.count (suc k) item
     unfolding item_of
     moved_stored n e item op =
-        upd_elim (λ x. x ≡ takes_at j.object (note j) j.count (suc k) item) (c Stands) n (earlier (c Stands n) (suc k)) item
-        (λ here. moved_here n e (subst (IsOperation j.count) here op) ∙ ap (takes_at j.object (note j) j.count (suc k)) (sym here))
-        (λ there. stands_kept item op (λ q. there (sym q ∙ ap item_of e)))
+        column_stored (suc k) c Stands n (earlier (c Stands n) (suc k)) item (λ here. moved_here n e (subst (IsOperation j.count) here op)) (λ there. stands_kept item op (λ q. there (sym q ∙ ap item_of e)))
 
     -- where a mark was raised
     raised_stored : (t : ℕ) → heard ≡ Raised t → (item : ℕ) → IsOperation j.count item → upd (c Stands) t (max (c Stands t) (c Start o)) item ≡ takes_at j.object (note j) j.count (suc k) item
     unfolding item_of
     raised_stored t e item op =
         let own : IsOperation j.count o = acts.operation in
-        upd_elim (λ x. x ≡ takes_at j.object (note j) j.count (suc k) item) (c Stands) t (max (c Stands t) (c Start o)) item
+        column_stored (suc k) c Stands t (max (c Stands t) (c Start o)) item
         (λ here.
         let node : IsOperation j.count t = subst (IsOperation j.count) here op in
         (λ i. max (a Stands t node i) (a Start o own i))
-        ∙ sym (stands_raised (course j) k o acts t e (operation_some node))
-        ∙ ap (takes_at j.object (note j) j.count (suc k)) (sym here))
+        ∙ sym (stands_raised (course j) k o acts t e (operation_some node)))
         (λ there. stands_kept item op (λ q. there (sym q ∙ ap item_of e)))
 
     late_kept : (n : ℕ) → heard ≡ Late n → (item : ℕ) → IsOperation j.count item → (item ≡ n) ⊎ (item ≢ n) → c Stands item ≡ takes_at j.object (note j) j.count (suc k) item
@@ -178,9 +174,7 @@ module _ (j : Job) where
 
     first_stored : (q : ℕ) → IsOperation j.count q → upd (c First) o (earlier (c First o) (suc k)) q ≡ first (note j) (suc k) q
     first_stored q op =
-        upd_elim (λ x. x ≡ first (note j) (suc k) q) (c First) o (earlier (c First o) (suc k)) q
-        (λ here. first_here ∙ ap (first (note j) (suc k)) (sym here))
-        (λ there. a First q op ∙ sym (first_other (note j) k q (other there)))
+        column_stored (suc k) c First o (earlier (c First o) (suc k)) q (λ here. first_here) (λ there. a First q op ∙ sym (first_other (note j) k q (other there)))
 
     -- who makes a step was not dropped, and the step drops none
     drops_none : {q : ℕ} → IsOperation j.count q → dropped j (suc k) ≢ q
@@ -193,8 +187,8 @@ module _ (j : Job) where
     last_stored : (ends : Bool) → is_answer (note j (suc k)).answer ≡ ends → (q : ℕ) → IsOperation j.count q → upd (c Last) o (pick ends (suc k) (c Last o)) q ≡ ending j (suc k) q
     unfolding pick deeds
     last_stored true e q op =
-        upd_elim (λ x. x ≡ ending j (suc k) q) (c Last) o (suc k) q
-        (λ here. sym (last_new (note j) k o acts.by e (acts_new (course j) k o acts).not_over) ∙ sym not_dropped ∙ ap (ending j (suc k)) (sym here))
+        column_stored (suc k) c Last o (suc k) q
+        (λ here. sym (last_new (note j) k o acts.by e (acts_new (course j) k o acts).not_over) ∙ sym not_dropped)
         (λ there. a Last q op ∙ sym (ending_kept k q (drops_none op) (last_other (note j) k q (other there))))
     last_stored false e q op = ap (λ f. f q) (upd_id (c Last) o) ∙ a Last q op ∙ sym (ending_kept k q (drops_none op) (last_unless (note j) k q e))
 

@@ -12,7 +12,7 @@ use job::{Operation, Step};
 use machine::Event;
 use rows::{OpColumn, cell, store};
 
-// The step that a cell keeps: the one that it has, or k if it has none.
+// The step that a cell keeps: the one that it has, or k if it has none. A cell is a number, so none is 0, which is no step.
 fn earlier(old: u16, k: Step) -> u16
     ensures { result ≡ earlier old k.0 }
 {
@@ -76,7 +76,7 @@ pub fn note(event: Event, o: Operation, k: Step, ops: &mut [u16])
     }
 }
 
-// One more round is lost.
+// One more round is lost. Row 0 is no operation's: its first cell has how many are.
 pub fn count_lost(ops: &mut [u16])
     requires { Countable ops.old }
     ensures { cells ops.new ≡ counted true (cells ops.old) }

@@ -1,31 +1,22 @@
 -- A store in a row: its own column is updated there, and every other column stays. For rows of any width and columns. Assumes nothing.
 use mathlib.Core.Path.{◌≡◌, sym, ap, fun_ext, ◌∙◌}
-use mathlib.Core.Logic.{◌≢◌, ◌⊎◌, inl, inr}
-use Prim.Native.Nat.{ℕ, suc, ◌+◌, ◌*◌, ◌≤◌, ◌<◌}
-use native.Mathlib.Nat.{mul-le-mul_left, mul-suc}
+use mathlib.Core.Logic.{◌≢◌}
+use Prim.Native.Nat.{ℕ, ◌+◌, ◌*◌, ◌<◌, ◌/◌}
+use Rattle.std.proofs.lemmas.Nat.{div-mul-add}
 use native.Mathlib.Omega.{arith}
 use mathlib.Core.List.{List}
 use Rattle.basics.specs.Choice.{same}
 use Rattle.basics.specs.Maps.{at, upd}
-use Rattle.basics.proofs.Choice.{compare, pick_elim, same_equal, same_unequal}
+use Rattle.basics.proofs.Choice.{pick_elim, same_equal, same_unequal}
 use Rattle.basics.proofs.Maps.{upd_here, upd_there, upd_elim}
 use Rattle.rows.specs.Rows.{place, column, cells_of, stored_in}
-
--- a row ends before a later one begins
-before_next : (width i j : ℕ) → i < j → width * i + width ≤ width * j
-before_next width i j less =
-    let step : width * suc i ≤ width * j = mul-le-mul_left width less in
-    omega (arith, mul-suc width i)
 
 module _ {width : ℕ} where
   -- two cells at one place are of one row
   same_row : {f g : ℕ} → f < width → g < width → (i j : ℕ) → place width i f ≡ place width j g → i ≡ j
-  same_row {f} {g} small_f small_g i j e = go (compare i j) (compare j i)
-    where
-      go : (i ≤ j) ⊎ (j < i) → (j ≤ i) ⊎ (i < j) → i ≡ j
-      go (inl low) (inl high) = omega arith
-      go (inr less) other = absurd (let b : ⊥ = omega (arith, before_next width j i less) in b)
-      go (inl low) (inr less) = absurd (let b : ⊥ = omega (arith, before_next width i j less) in b)
+  same_row {f} {g} small_f small_g i j e =
+      let turned : i * width + f ≡ j * width + g = omega arith in
+      sym (div-mul-add i width f small_f) ∙ ap (λ x. x / width) turned ∙ div-mul-add j width g small_g
 
   pub own_column : (m : ℕ → ℕ) (i v : ℕ) {f : ℕ} → f < width → column width f (upd m (place width i f) v) ≡ upd (column width f m) i v
   unfolding column
