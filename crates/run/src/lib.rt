@@ -96,7 +96,8 @@ fn make(
     s
 }
 
-// What a turn of a place leaves: whether its operation is over, and the place's row and registers and the object's cells.
+// What a turn of a place leaves: whether its operation is over, and the place's row and registers and the object's cells. A drop at an
+// operation that has not begun leaves them too and is not over, so this is no Option.
 #[derive(Clone, Copy, Debug, PartialEq, Eq)]
 struct Turn {
     over: bool,
