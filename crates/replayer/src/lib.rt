@@ -21,7 +21,7 @@ ghost use Rattle.replayer.specs.Replay.{job_in, processes_in, job_run, shut_in, 
 use idling::shut;
 use job::{Limits, Refusal};
 use memory::clear;
-use run::Object;
+use machine::Object;
 use windows::bad_windows;
 
 // Runs the job of a stream in blank lent memory, and writes its report.

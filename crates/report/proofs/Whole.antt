@@ -29,15 +29,15 @@ use Rattle.report.proofs.Operations.{item_in_range}
 use Rattle.report.proofs.Left.{head_within, nodes_held, uppers_held, left_held}
 
 -- where the items that are left begin has a row
-pub head_there : {j : Job} {h : Heading} {ops by nodes : List ℕ} {end : Finish} → Leaves j h ops by nodes end → HasNodes end.head nodes
+pub head_there : {j : Job} {h : Heading} {ops by nodes : List ℕ} {end : Finish} → Leaves j h ops by nodes end → HasNodes end.object.head nodes
 head_there {j} {h} {nodes} {end} l =
-    omega (arith, head_within j h.steps end.head end.tail end.top nodes l.memory, ap (λ (x : Heading). x.count) l.heading, l.has_nodes)
+    omega (arith, head_within j h.steps end.object.head end.object.tail end.object.top nodes l.memory, ap (λ (x : Heading). x.count) l.heading, l.has_nodes)
 
 -- and so has every node on the way up from the sentinel
 pub uppers_there : {j : Job} {h : Heading} {ops by nodes : List ℕ} {end : Finish} → Leaves j h ops by nodes end → UppersThere nodes h.count
 uppers_there {j} {h} {nodes} {end} l =
     let count : h.count ≡ j.count = ap (λ (x : Heading). x.count) l.heading in
-    subst (UppersThere nodes) (sym count) (uppers_held j h.steps end.head end.tail end.top nodes l.memory (omega (arith, count, l.has_nodes)))
+    subst (UppersThere nodes) (sym count) (uppers_held j h.steps end.object.head end.object.tail end.object.top nodes l.memory (omega (arith, count, l.has_nodes)))
 
 -- what the parts of a report ask, and that they are the whole in their order
 pub record Parts (j : Job) (h : Heading) (ops by nodes : List ℕ) (reach lost node : ℕ) : Type 0 where
@@ -49,7 +49,7 @@ pub record Parts (j : Job) (h : Heading) (ops by nodes : List ℕ) (reach lost n
   pub whole : object_line h.object ++ operation_lines j j.steps h.count ++ record_lines (found_lines (cells ops) (at by) h.count reach) ++ (lost_line h.object lost ++ left_line (left_from h.object nodes node h.count)) ≡ report j
 
 -- of the job's own heading
-parts_of_job : (j : Job) {ops by nodes : List ℕ} {end : Finish} → Leaves j (heading_of j) ops by nodes end → Parts j (heading_of j) ops by nodes end.reach.0 end.lost (first_node j.object nodes end.head end.top j.count)
+parts_of_job : (j : Job) {ops by nodes : List ℕ} {end : Finish} → Leaves j (heading_of j) ops by nodes end → Parts j (heading_of j) ops by nodes end.reach.0 end.lost (first_node j.object nodes end.object.head end.object.top j.count)
 unfolding report the_record
 parts_of_job j {ops} {by} {nodes} {end} l =
     record {
@@ -62,18 +62,18 @@ parts_of_job j {ops} {by} {nodes} {end} l =
         makers = λ s low high. maker_within j l.journal s low (omega (arith, l.behind.within));
         items = λ o low high. item_in_range j j.steps l.journal.agrees o (record { from_one = low; to_count = high });
       };
-      nodes_there = nodes_held j j.steps end.head end.tail end.top nodes l.memory l.has_nodes;
+      nodes_there = nodes_held j j.steps end.object.head end.object.tail end.object.top nodes l.memory l.has_nodes;
       whole =
           let lines = lines_held j l.journal l.short end.reach.0 l.behind.within ∙ all_lines_to_reach j l.behind in
-          let items = left_held j j.steps end.head end.tail end.top nodes l.memory in
+          let items = left_held j j.steps end.object.head end.object.tail end.object.top nodes l.memory in
           (λ i. object_line j.object ++ operation_lines j j.steps j.count ++ record_lines (lines i) ++ (lost_line j.object (l.lost i) ++ left_line (items i)))
           ∙ simp append_assoc;
     }
 
-pub parts : {j : Job} {h : Heading} {ops by nodes : List ℕ} {end : Finish} {node : ℕ} → Leaves j h ops by nodes end → node ≡ first_node h.object nodes end.head end.top h.count → Parts j h ops by nodes end.reach.0 end.lost node
+pub parts : {j : Job} {h : Heading} {ops by nodes : List ℕ} {end : Finish} {node : ℕ} → Leaves j h ops by nodes end → node ≡ first_node h.object nodes end.object.head end.object.top h.count → Parts j h ops by nodes end.reach.0 end.lost node
 parts {j} {h} {ops} {by} {nodes} {end} l first =
     subst (Parts j h ops by nodes end.reach.0 end.lost) (sym first)
-    (subst (λ (x : Heading). Parts j x ops by nodes end.reach.0 end.lost (first_node x.object nodes end.head end.top x.count)) (sym l.heading) (parts_of_job j (subst (λ (x : Heading). Leaves j x ops by nodes end) l.heading l)))
+    (subst (λ (x : Heading). Parts j x ops by nodes end.reach.0 end.lost (first_node x.object nodes end.object.head end.object.top x.count)) (sym l.heading) (parts_of_job j (subst (λ (x : Heading). Leaves j x ops by nodes end) l.heading l)))
 
 -- a page on a memory as long as the report has room for its parts
 pub room_there : {j : Job} {h : Heading} {ops by nodes : List ℕ} {reach lost node : ℕ} {memory : MutBor (List ℕ)} {p : Page} → Parts j h ops by nodes reach lost node → Opens memory p → length (report j) ≤ length memory.now → HasRoom p (object_line h.object ++ operation_lines j j.steps h.count ++ record_lines (found_lines (cells ops) (at by) h.count reach) ++ (lost_line h.object lost ++ left_line (left_from h.object nodes node h.count)))

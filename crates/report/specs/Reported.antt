@@ -10,7 +10,7 @@ use Rattle.machine.specs.Run.{state_after}
 use Rattle.machine.specs.Notes.{note}
 use Rattle.machine.specs.Idle.{IdleBehind}
 use Rattle.machine.specs.Lost as Lost
-use Rattle.access.specs.Nodes.{memory_of}
+use Rattle.access.specs.Nodes.{object_memory}
 use Rattle.journal.specs.Journal.{Holds}
 use Rattle.text.specs.Laid.{laid}
 
@@ -24,7 +24,7 @@ pub record Leaves (j : Job) (h : Heading) (ops by nodes : List ℕ) (end : Finis
   pub has_nodes : HasNodes h.count nodes
   pub has_steps : h.steps < length by
   pub journal : Holds j h.steps ops by
-  pub memory : memory_of end.head end.tail end.top nodes ≡ (state_after j h.steps).memory
+  pub memory : object_memory end.object nodes ≡ (state_after j h.steps).memory
   pub behind : IdleBehind j end.reach.0 h.steps
   pub lost : end.lost ≡ Lost.lost (note j) h.steps
 

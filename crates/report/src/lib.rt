@@ -17,7 +17,7 @@ ghost use Rattle.wording.specs.Report.{operation_lines, record_lines, lost_line,
 ghost use Rattle.report.specs.Found.{here, found, found_lines, Within};
 ghost use Rattle.report.specs.Reported.{Leaves, Reported};
 
-use job::{Heading, Kind, Limits, Operation, Step};
+use job::{Heading, Kind, Limits, Operation, Step, Stream};
 use lines::{Found, Left, Takers, object_line, operation_line};
 use machine::Finish;
 use rows::{NodeColumn, OpColumn, cell};
@@ -27,7 +27,7 @@ use text::Page;
 const CELLS: usize = lines::BOUNDS * (Limits::OPERATIONS + 1);
 
 // The lines of operations, in number order.
-fn operation_lines(page: &mut Page, stream: &[u8], ops: &[u16], count: u16)
+fn operation_lines(page: &mut Page, stream: &Stream, ops: &[u16], count: u16)
     requires stream_in_bounds { (stream_length stream.now ≤ length stream.now) × (count ≡ (job_of stream.now).count) × ((job_of stream.now).steps < dropped_mark) × HasOps count ops.now × Agrees (job_of stream.now) (job_of stream.now).steps (cells ops.now) }
     requires count_in_bounds { HasRoom page.old (operation_lines (job_of stream.now) (job_of stream.now).steps count) }
     ensures { Wrote page.old page.new (operation_lines (job_of stream.now) (job_of stream.now).steps count) }
@@ -147,7 +147,7 @@ fn last_lines(page: &mut Page, object: Kind, lost: u16, left: Left)
 // The report of a finished run, at the front of a memory, and its length. Steps behind `end.reach` are idle and have no line.
 pub fn write_report(
     out: &mut [u8],
-    stream: &[u8],
+    stream: &Stream,
     h: Heading,
     ops: &[u16],
     by: &[u16],
@@ -158,7 +158,7 @@ pub fn write_report(
     ensures { Reported out.old out.new result (report (job_of stream.now)) }
 {
     let object = h.object;
-    let node = first_node(object, nodes, end.head, end.top, h.count);
+    let node = first_node(object, nodes, end.object.head, end.object.top, h.count);
     let left = Left::new(object, nodes, node, h.count);
     let mut page = Page::new(out);
     object_line(&mut page, object);

@@ -12,6 +12,7 @@ use Rattle.rows.specs.declared.OpColumn.TheVariants.{First, Last}
 use Rattle.job.specs.declared.Process.{Process}
 use Rattle.job.specs.declared.Slot.TheVariants.{Drops}
 use Rattle.job.specs.Job.{Job}
+use Rattle.machine.specs.declared.Object.{Object}
 use Rattle.machine.specs.declared.Place.{Place}
 use Rattle.machine.specs.Run.{State, before, operation_after, state_after}
 use Rattle.machine.proofs.Bounds.{within}
@@ -34,7 +35,7 @@ module _ (j : Job) (k : ℕ) (p : Process) (named : j.slot (suc k) ≡ Drops p) 
   abbrev held : ℕ
   held = (its_place j k p).operation.0
 
-  module _ {head tail top : ℕ} {nodes ops by : List ℕ} (to_count : held ≤ j.count) (r : Ran j k head tail top nodes ops by) where
+  module _ {object : Object} {nodes ops by : List ℕ} (to_count : held ≤ j.count) (r : Ran j k object nodes ops by) where
     -- an operation has begun exactly if its row has a first step
     begun_is : {waits : Bool} → same (cells ops First held) 0 ≡ waits → (state_after j k).begun held ≡ not waits
     begun_is e =
@@ -49,7 +50,7 @@ module _ (j : Job) (k : ℕ) (p : Process) (named : j.slot (suc k) ≡ Drops p) 
 
     -- one that has begun is dropped
     module _ (begun : same (cells ops First held) 0 ≡ false) where
-      pub ran_drops : {ops' : List ℕ} → cells ops' ≡ stored Last held dropped_mark (cells ops) → Ran j (suc k) head tail top nodes ops' by
+      pub ran_drops : {ops' : List ℕ} → cells ops' ≡ stored Last held dropped_mark (cells ops) → Ran j (suc k) object nodes ops' by
       unfolding memory
       ran_drops e =
           let state_is = state_drops j k p named (begun_is begun) in

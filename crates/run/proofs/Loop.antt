@@ -21,6 +21,7 @@ use Rattle.job.specs.declared.Slot.TheVariants.{Acts, Drops}
 use Rattle.job.specs.Slot.{process_of, is_drop}
 use Rattle.job.specs.Job.{Job, job_of}
 use Rattle.job.proofs.Slots.{slot_acts, slot_drops}
+use Rattle.machine.specs.declared.Object.{Object}
 use Rattle.machine.specs.declared.Place.{Place}
 use Rattle.machine.specs.Memory.{Memory, fresh_memory}
 use Rattle.machine.specs.Table.{ended, is_return}
@@ -34,7 +35,7 @@ use Rattle.machine.proofs.Stamps.{drop_zero, first_zero, last_zero, start_zero, 
 use Rattle.theory.proofs.Operations.{note_first}
 use Rattle.theory.proofs.Operations.Hands.{Idling}
 use Rattle.theory.proofs.TakesAt.{stands_zero}
-use Rattle.access.specs.Nodes.{memory_of}
+use Rattle.access.specs.Nodes.{memory_of, object_memory}
 use Rattle.step.specs.declared.Stepped.{Stepped}
 use Rattle.step.specs.Promise.{IsStep, event_at}
 use Rattle.journal.specs.Journal.{held}
@@ -63,7 +64,7 @@ room_kept l r =
     }
 
 -- at the start: fresh memory and an empty journal
-pub ran_at_start : (j : Job) {head tail top : ℕ} {nodes ops by : List ℕ} → head ≡ fresh_memory.head → tail ≡ fresh_memory.tail → top ≡ fresh_memory.top → AllBlank nodes ops by → Ran j 0 head tail top nodes ops by
+pub ran_at_start : (j : Job) {object : Object} {nodes ops by : List ℕ} → object.head ≡ fresh_memory.head → object.tail ≡ fresh_memory.tail → object.top ≡ fresh_memory.top → AllBlank nodes ops by → Ran j 0 object nodes ops by
 unfolding state_after fresh_state fresh_memory memory_of column
 ran_at_start j {ops = ops} h t p b =
     record {
@@ -86,25 +87,25 @@ ran_at_start j {ops = ops} h t p b =
 
 -- the loop's invariant: after k steps places, memory and journal are the definition's, so many processes still have operations, and
 -- every list has the length that it was lent with
-pub record Turning (stream : List ℕ) (job : Heading) (k : ℕ) (places : List Place) (total head tail top : ℕ) (nodes₀ ops₀ by₀ nodes ops by : List ℕ) : Type 0 where
+pub record Turning (stream : List ℕ) (job : Heading) (k : ℕ) (places : List Place) (total : ℕ) (object : Object) (nodes₀ ops₀ by₀ nodes ops by : List ℕ) : Type 0 where
   pub small : k ≤ job.steps
   pub in_place : InPlace (job_of stream) k places
   pub counted : total ≡ working job.count places
-  pub ran : Ran (job_of stream) k head tail top nodes ops by
+  pub ran : Ran (job_of stream) k object nodes ops by
   pub lengths : SameLengths nodes₀ ops₀ by₀ nodes ops by
 
 -- at the end: all steps are made
-pub finished : {stream : List ℕ} {job : Heading} {k : ℕ} {places : List Place} {total head tail top : ℕ} {nodes₀ ops₀ by₀ nodes ops by : List ℕ} → Turning stream job k places total head tail top nodes₀ ops₀ by₀ nodes ops by → job.steps ≤ k → Ran (job_of stream) job.steps head tail top nodes ops by
-finished {stream} {job} {k} {head = head} {tail = tail} {top = top} {nodes = nodes} {ops = ops} {by = by} t over =
+pub finished : {stream : List ℕ} {job : Heading} {k : ℕ} {places : List Place} {total : ℕ} {object : Object} {nodes₀ ops₀ by₀ nodes ops by : List ℕ} → Turning stream job k places total object nodes₀ ops₀ by₀ nodes ops by → job.steps ≤ k → Ran (job_of stream) job.steps object nodes ops by
+finished {stream} {job} {k} {object = object} {nodes = nodes} {ops = ops} {by = by} t over =
     let small : k ≤ job.steps = t.small in
     let e : k ≡ job.steps = omega arith in
-    subst (λ x. Ran (job_of stream) x head tail top nodes ops by) e t.ran
+    subst (λ x. Ran (job_of stream) x object nodes ops by) e t.ran
 
 -- the place that the code takes out
 place_within : {j : Job} {k p : ℕ} {places : List Place} → InPlace j k places → p < run_places → PlaceWithin j.count (get_or places p nowhere)
 place_within {j} {k} {p} l h = subst (PlaceWithin j.count) (sym (l.each p h)) ((within j k).place p)
 
-module _ {stream : List ℕ} {job : Heading} (r : Runnable stream job) {k : ℕ} {places : List Place} {total head tail top : ℕ} {nodes₀ ops₀ by₀ nodes ops by : List ℕ} (t : Turning stream job k places total head tail top nodes₀ ops₀ by₀ nodes ops by) (more : k < job.steps) {slot : Slot} (slot_is : slot ≡ (job_of stream).slot (k + 1)) (p : ℕ) (process_is : p ≡ process_of slot) where
+module _ {stream : List ℕ} {job : Heading} (r : Runnable stream job) {k : ℕ} {places : List Place} {total : ℕ} {object : Object} {nodes₀ ops₀ by₀ nodes ops by : List ℕ} (t : Turning stream job k places total object nodes₀ ops₀ by₀ nodes ops by) (more : k < job.steps) {slot : Slot} (slot_is : slot ≡ (job_of stream).slot (k + 1)) (p : ℕ) (process_is : p ≡ process_of slot) where
   -- the process that the schedule names
   abbrev process : ℕ
   process = process_of ((job_of stream).slot (suc k))
@@ -136,9 +137,9 @@ module _ {stream : List ℕ} {job : Heading} (r : Runnable stream job) {k : ℕ}
   awake h = le_less (subst (λ (x : ℕ × Place). x.1.operation.0 ≤ x.0) (λ i. (its_count r i, its_place i)) h)
 
   -- nothing happens
-  turning_idles : Idling (job_of stream) k → Turning stream job (k + 1) places total head tail top nodes₀ ops₀ by₀ nodes ops by
+  turning_idles : Idling (job_of stream) k → Turning stream job (k + 1) places total object nodes₀ ops₀ by₀ nodes ops by
   turning_idles i =
-      subst (λ x. Turning stream job x places total head tail top nodes₀ ops₀ by₀ nodes ops by) (sym (add-one k))
+      subst (λ x. Turning stream job x places total object nodes₀ ops₀ by₀ nodes ops by) (sym (add-one k))
       (record {
         small = more;
         in_place = places_idle (job_of stream) k i t.in_place;
@@ -147,18 +148,18 @@ module _ {stream : List ℕ} {job : Heading} (r : Runnable stream job) {k : ℕ}
         lengths = t.lengths;
       })
 
-  pub turning_rests : job.count < place.operation.0 → Turning stream job (k + 1) places total head tail top nodes₀ ops₀ by₀ nodes ops by
+  pub turning_rests : job.count < place.operation.0 → Turning stream job (k + 1) places total object nodes₀ ops₀ by₀ nodes ops by
   turning_rests h = turning_idles (rest_idles (job_of stream) k (rests h))
 
   m : Memory
-  m = memory_of head tail top nodes
+  m = object_memory object nodes
 
   m_within : MemoryWithin (job_of stream).count m
   unfolding m
   m_within = subst (MemoryWithin (job_of stream).count) (sym t.ran.memory) (within (job_of stream) k).memory
 
   -- the item of the step's event is a node
-  item_in : place.operation.0 ≤ job.count → item_of (event_at place head tail top nodes) ≤ job.count
+  item_in : place.operation.0 ≤ job.count → item_of (event_at place object nodes) ≤ job.count
   unfolding m event_at acted
   item_in acts =
       let j : Job = job_of stream in
@@ -173,12 +174,12 @@ module _ {stream : List ℕ} {job : Heading} (r : Runnable stream job) {k : ℕ}
   next_in = subst (λ n. nexts nodes place.t ≤ n) (sym (its_count r)) (m_within.next place.t)
 
   -- all that the step needs is there
-  pub makes : Room nodes₀ ops₀ by₀ → place.operation.0 ≤ job.count → Makes place (k + 1) head tail top nodes ops by
+  pub makes : Room nodes₀ ops₀ by₀ → place.operation.0 ≤ job.count → Makes place (k + 1) object nodes ops by
   unfolding registers
   makes lent h =
       let w : PlaceWithin job.count place = subst (λ n. PlaceWithin n place) (sym (its_count r)) (place_within t.in_place p_in_range) in
       let room : Room nodes ops by = room_kept t.lengths lent in
-      let item : item_of (event_at place head tail top nodes) ≤ job.count = item_in h in
+      let item : item_of (event_at place object nodes) ≤ job.count = item_in h in
       record {
         going = w.going;
         inside =
@@ -203,10 +204,10 @@ module _ {stream : List ℕ} {job : Heading} (r : Runnable stream job) {k : ℕ}
   counted_in h =
       omega (arith, t.counted, working_has job.count places p (subst (λ n. p < n) (sym t.in_place.whole) p_in_range), still_has job.count place.operation.0 h)
 
-  module _ (steps : is_drop slot ≡ false) {s : Stepped} {nodes' : List ℕ} (acts : place.operation.0 ≤ job.count) (is : IsStep place head tail top nodes s nodes') where
-    turning_acts : {ops' by' : List ℕ} (after : Place) {total' : ℕ} → Stored (event_at place head tail top nodes) (ended s.row) (is_return s.row) place.operation.0 (k + 1) ops by ops' by' → after ≡ followed (job_of stream) p place.operation s → total' ≡ total - 1 + still job.count after.operation.0 → SameLengths nodes ops by nodes' ops' by' → Turning stream job (k + 1) (set places p after) total' s.head s.tail s.top nodes₀ ops₀ by₀ nodes' ops' by'
+  module _ (steps : is_drop slot ≡ false) {s : Stepped} {nodes' : List ℕ} (acts : place.operation.0 ≤ job.count) (is : IsStep place object nodes s nodes') where
+    turning_acts : {ops' by' : List ℕ} (after : Place) {total' : ℕ} → Stored (event_at place object nodes) (ended s.row) (is_return s.row) place.operation.0 (k + 1) ops by ops' by' → after ≡ followed (job_of stream) p place.operation s → total' ≡ total - 1 + still job.count after.operation.0 → SameLengths nodes ops by nodes' ops' by' → Turning stream job (k + 1) (set places p after) total' s.left.object nodes₀ ops₀ by₀ nodes' ops' by'
     turning_acts {ops'} {by'} after {total'} stored f counts kept =
-        subst (λ x. Turning stream job x (set places p after) total' s.head s.tail s.top nodes₀ ops₀ by₀ nodes' ops' by') (sym (add-one k))
+        subst (λ x. Turning stream job x (set places p after) total' s.left.object nodes₀ ops₀ by₀ nodes' ops' by') (sym (add-one k))
         (record {
           small = more;
           in_place =
@@ -218,7 +219,7 @@ module _ {stream : List ℕ} {job : Heading} (r : Runnable stream job) {k : ℕ}
               omega (arith, t.counted, counted_in acts, counts, working_set job.count places p after (subst (λ n. p < n) (sym t.in_place.whole) p_in_range), still_has job.count place.operation.0 acts);
           ran =
               ran_acts j k own acts_named (awake acts) t.ran real
-              (subst (λ (x : ℕ × Place). Stored (event_at x.1 head tail top nodes) (ended s.row) (is_return s.row) x.1.operation.0 x.0 ops by ops' by') (λ i. (add-one k i, its_place i)) stored);
+              (subst (λ (x : ℕ × Place). Stored (event_at x.1 object nodes) (ended s.row) (is_return s.row) x.1.operation.0 x.0 ops by ops' by') (λ i. (add-one k i, its_place i)) stored);
           lengths =
               record {
                 of_nodes = kept.of_nodes ∙ t.lengths.of_nodes;
@@ -236,11 +237,11 @@ module _ {stream : List ℕ} {job : Heading} (r : Runnable stream job) {k : ℕ}
         acts_named : (job_of stream).slot (suc k) ≡ Acts own
         acts_named = slot_acts ((job_of stream).slot (suc k)) (ap is_drop (sym named) ∙ steps)
 
-        real : IsStep ((state_after (job_of stream) k).places process) head tail top nodes s nodes'
-        real = subst (λ x. IsStep x head tail top nodes s nodes') its_place is
+        real : IsStep ((state_after (job_of stream) k).places process) object nodes s nodes'
+        real = subst (λ x. IsStep x object nodes s nodes') its_place is
 
     -- a step after which the operation goes on
-    turning_goes : {ops' by' : List ℕ} (after : Place) → Stored (event_at place head tail top nodes) (ended s.row) (is_return s.row) place.operation.0 (k + 1) ops by ops' by' → ended s.row ≡ false → after ≡ record { operation = place.operation; row = s.row; h = s.h; t = s.t; n = s.n } → SameLengths nodes ops by nodes' ops' by' → Turning stream job (k + 1) (set places p after) total s.head s.tail s.top nodes₀ ops₀ by₀ nodes' ops' by'
+    turning_goes : {ops' by' : List ℕ} (after : Place) → Stored (event_at place object nodes) (ended s.row) (is_return s.row) place.operation.0 (k + 1) ops by ops' by' → ended s.row ≡ false → after ≡ record { operation = place.operation; row = s.row; h = s.left.h; t = s.left.t; n = s.left.n } → SameLengths nodes ops by nodes' ops' by' → Turning stream job (k + 1) (set places p after) total s.left.object nodes₀ ops₀ by₀ nodes' ops' by'
     turning_goes after stored on f kept =
         turning_acts after stored (followed_going (job_of stream) p place.operation s on f)
         (let same : after.operation.0 ≡ place.operation.0 = ap (λ (q : Place). q.operation.0) f in
@@ -248,7 +249,7 @@ module _ {stream : List ℕ} {job : Heading} (r : Runnable stream job) {k : ℕ}
         kept
 
     -- a step at which it ends
-    turning_ends : {ops' by' : List ℕ} (after : Place) {total' : ℕ} → Stored (event_at place head tail top nodes) (ended s.row) (is_return s.row) place.operation.0 (k + 1) ops by ops' by' → ended s.row ≡ true → after ≡ before (job_of stream) (operation_after (job_of stream) p place.operation.0) → total' ≡ total - 1 + still job.count after.operation.0 → SameLengths nodes ops by nodes' ops' by' → Turning stream job (k + 1) (set places p after) total' s.head s.tail s.top nodes₀ ops₀ by₀ nodes' ops' by'
+    turning_ends : {ops' by' : List ℕ} (after : Place) {total' : ℕ} → Stored (event_at place object nodes) (ended s.row) (is_return s.row) place.operation.0 (k + 1) ops by ops' by' → ended s.row ≡ true → after ≡ before (job_of stream) (operation_after (job_of stream) p place.operation.0) → total' ≡ total - 1 + still job.count after.operation.0 → SameLengths nodes ops by nodes' ops' by' → Turning stream job (k + 1) (set places p after) total' s.left.object nodes₀ ops₀ by₀ nodes' ops' by'
     turning_ends after stored over f = turning_acts after stored (followed_ended (job_of stream) p place.operation s over f)
 
   -- a drop
@@ -267,9 +268,9 @@ module _ {stream : List ℕ} {job : Heading} (r : Runnable stream job) {k : ℕ}
     its_first {waits} e = subst (λ (x : Place). same (cells ops First x.operation.0) 0 ≡ waits) its_place e
 
     -- with none begun
-    turning_waits : same (cells ops First place.operation.0) 0 ≡ true → {ops' : List ℕ} (after : Place) → after ≡ place → cells ops' ≡ cells ops → length ops' ≡ length ops → Turning stream job (k + 1) (set places p after) total head tail top nodes₀ ops₀ by₀ nodes ops' by
+    turning_waits : same (cells ops First place.operation.0) 0 ≡ true → {ops' : List ℕ} (after : Place) → after ≡ place → cells ops' ≡ cells ops → length ops' ≡ length ops → Turning stream job (k + 1) (set places p after) total object nodes₀ ops₀ by₀ nodes ops' by
     turning_waits e {ops'} after stays rows kept =
-        subst (λ x. Turning stream job x (set places p after) total head tail top nodes₀ ops₀ by₀ nodes ops' by) (sym (add-one k))
+        subst (λ x. Turning stream job x (set places p after) total object nodes₀ ops₀ by₀ nodes ops' by) (sym (add-one k))
         (record {
           small = more;
           in_place = subst (λ x. InPlace j (suc k) (set places x after)) (sym p_is) (places_stay j k idling places process after process_in_range t.in_place (stays ∙ its_place));
@@ -287,9 +288,9 @@ module _ {stream : List ℕ} {job : Heading} (r : Runnable stream job) {k : ℕ}
         idling = waits_idle (job_of stream) k own drops_named held_in t.ran (its_first e)
 
     -- with one begun
-    turning_drops : same (cells ops First place.operation.0) 0 ≡ false → {ops' : List ℕ} (after : Place) {total' : ℕ} → after ≡ before (job_of stream) (operation_after (job_of stream) p place.operation.0) → cells ops' ≡ stored Last place.operation.0 dropped_mark (cells ops) → total' ≡ total - 1 + still job.count after.operation.0 → length ops' ≡ length ops → Turning stream job (k + 1) (set places p after) total' head tail top nodes₀ ops₀ by₀ nodes ops' by
+    turning_drops : same (cells ops First place.operation.0) 0 ≡ false → {ops' : List ℕ} (after : Place) {total' : ℕ} → after ≡ before (job_of stream) (operation_after (job_of stream) p place.operation.0) → cells ops' ≡ stored Last place.operation.0 dropped_mark (cells ops) → total' ≡ total - 1 + still job.count after.operation.0 → length ops' ≡ length ops → Turning stream job (k + 1) (set places p after) total' object nodes₀ ops₀ by₀ nodes ops' by
     turning_drops begun {ops'} after {total'} next stores counts kept =
-        subst (λ x. Turning stream job x (set places p after) total' head tail top nodes₀ ops₀ by₀ nodes ops' by) (sym (add-one k))
+        subst (λ x. Turning stream job x (set places p after) total' object nodes₀ ops₀ by₀ nodes ops' by) (sym (add-one k))
         (record {
           small = more;
           in_place =
@@ -306,13 +307,13 @@ module _ {stream : List ℕ} {job : Heading} (r : Runnable stream job) {k : ℕ}
         j = job_of stream
 
   -- a turn that ends the operation in hand, by its last step or by a drop
-  pub turning_over : {over : Bool} {s : Stepped} {nodes' ops' by' : List ℕ} (after : Place) {total' : ℕ} → TurnLeaves slot place (k + 1) head tail top nodes ops by over s nodes' ops' by' → over ≡ true → place.operation.0 ≤ job.count → after ≡ before (job_of stream) (operation_after (job_of stream) p place.operation.0) → total' ≡ total - 1 + still job.count after.operation.0 → SameLengths nodes ops by nodes' ops' by' → Turning stream job (k + 1) (set places p after) total' s.head s.tail s.top nodes₀ ops₀ by₀ nodes' ops' by'
+  pub turning_over : {over : Bool} {s : Stepped} {nodes' ops' by' : List ℕ} (after : Place) {total' : ℕ} → TurnLeaves slot place (k + 1) object nodes ops by over s nodes' ops' by' → over ≡ true → place.operation.0 ≤ job.count → after ≡ before (job_of stream) (operation_after (job_of stream) p place.operation.0) → total' ≡ total - 1 + still job.count after.operation.0 → SameLengths nodes ops by nodes' ops' by' → Turning stream job (k + 1) (set places p after) total' s.left.object nodes₀ ops₀ by₀ nodes' ops' by'
   turning_over after (stepped acts over_is is stores) over has f counts kept = turning_ends acts has is after stores (sym over_is ∙ over) f counts kept
   turning_over after (dropped is_dropped (waits w e)) over has f counts kept = absurd (true≢false (sym over))
   turning_over after (dropped is_dropped (drops b e)) over has f counts kept = turning_drops is_dropped has b after f e counts kept.of_ops
 
   -- a turn after which it goes on, or has not begun
-  pub turning_on : {over : Bool} {s : Stepped} {nodes' ops' by' : List ℕ} (after : Place) → TurnLeaves slot place (k + 1) head tail top nodes ops by over s nodes' ops' by' → over ≡ false → place.operation.0 ≤ job.count → after ≡ record { operation = place.operation; row = s.row; h = s.h; t = s.t; n = s.n } → SameLengths nodes ops by nodes' ops' by' → Turning stream job (k + 1) (set places p after) total s.head s.tail s.top nodes₀ ops₀ by₀ nodes' ops' by'
+  pub turning_on : {over : Bool} {s : Stepped} {nodes' ops' by' : List ℕ} (after : Place) → TurnLeaves slot place (k + 1) object nodes ops by over s nodes' ops' by' → over ≡ false → place.operation.0 ≤ job.count → after ≡ record { operation = place.operation; row = s.row; h = s.left.h; t = s.left.t; n = s.left.n } → SameLengths nodes ops by nodes' ops' by' → Turning stream job (k + 1) (set places p after) total s.left.object nodes₀ ops₀ by₀ nodes' ops' by'
   turning_on after (stepped acts over_is is stores) over has f kept = turning_goes acts has is after stores (sym over_is ∙ over) f kept
   turning_on after (dropped is_dropped (waits w e)) over has f kept = turning_waits is_dropped has w after f e kept.of_ops
   turning_on after (dropped is_dropped (drops b e)) over has f kept = absurd (true≢false over)

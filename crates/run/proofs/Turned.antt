@@ -17,6 +17,7 @@ use Rattle.job.specs.declared.Slot.{Slot}
 use Rattle.job.specs.declared.Slot.TheVariants.{Acts, Drops}
 use Rattle.job.specs.Slot.{process_of}
 use Rattle.job.specs.Job.{Job}
+use Rattle.machine.specs.declared.Object.{Object}
 use Rattle.machine.specs.declared.Place.{Place}
 use Rattle.machine.specs.Memory.{Memory}
 use Rattle.machine.specs.Access.{Reached}
@@ -29,7 +30,7 @@ use Rattle.theory.proofs.Course.{PassesIn, ActsIn, passes_by}
 use Rattle.theory.proofs.Operations.{course, passes}
 use Rattle.theory.proofs.Operations.Locals.{memory}
 use Rattle.theory.proofs.Operations.Hands.{Idling}
-use Rattle.access.specs.Nodes.{memory_of}
+use Rattle.access.specs.Nodes.{object_memory}
 use Rattle.step.specs.declared.Stepped.{Stepped}
 use Rattle.step.specs.Promise.{IsStep, event_at}
 use Rattle.journal.specs.Stored.{Stored}
@@ -39,25 +40,25 @@ use Rattle.run.specs.Promise.{nowhere, run_places, InPlace, Ran}
 -- the step of a place, from memory and with the answer of the code, as the definition has it
 pub record Made (place : Place) (m m' : Memory) (s : Stepped) : Type 0 where
   pub memory : m' ≡ (reached m place).memory
-  pub registers : record { h = s.h; t = s.t; n = s.n } ≡ (reached m place).registers
+  pub registers : record { h = s.left.h; t = s.left.t; n = s.left.n } ≡ (reached m place).registers
   pub row : s.row ≡ row_after place (reached m place)
 
-pub made_from : {place : Place} {head tail top : ℕ} {nodes nodes' : List ℕ} {s : Stepped} {m : Memory} → memory_of head tail top nodes ≡ m → IsStep place head tail top nodes s nodes' → Made place m (memory_of s.head s.tail s.top nodes') s
+pub made_from : {place : Place} {object : Object} {nodes nodes' : List ℕ} {s : Stepped} {m : Memory} → object_memory object nodes ≡ m → IsStep place object nodes s nodes' → Made place m (object_memory s.left.object nodes') s
 made_from {place} {nodes' = nodes'} {s = s} e is =
-    subst (λ x. Made place x (memory_of s.head s.tail s.top nodes') s) e
+    subst (λ x. Made place x (object_memory s.left.object nodes') s) e
     (record { memory = is.memory; registers = is.registers; row = is.row })
 
 -- the place after the step of an operation: before the process's next one if it ended, and else further on
 unfoldable pub followed : Job → ℕ → Machine.Operation → Stepped → Place
 followed j p o s =
-    pick (ended s.row) (before j (operation_after j p o.0)) (record { operation = o; row = s.row; h = s.h; t = s.t; n = s.n })
+    pick (ended s.row) (before j (operation_after j p o.0)) (record { operation = o; row = s.row; h = s.left.h; t = s.left.t; n = s.left.n })
 
 module _ (j : Job) (p : ℕ) (o : Machine.Operation) (s : Stepped) {after : Place} where
   pub followed_ended : ended s.row ≡ true → after ≡ before j (operation_after j p o.0) → after ≡ followed j p o s
   unfolding followed
   followed_ended e f = f ∙ sym (pick_then _ _ e)
 
-  pub followed_going : ended s.row ≡ false → after ≡ record { operation = o; row = s.row; h = s.h; t = s.t; n = s.n } → after ≡ followed j p o s
+  pub followed_going : ended s.row ≡ false → after ≡ record { operation = o; row = s.row; h = s.left.h; t = s.left.t; n = s.left.n } → after ≡ followed j p o s
   unfolding followed
   followed_going e f = f ∙ sym (pick_else _ _ e)
 
@@ -68,7 +69,7 @@ rested_past j place e h = omega (arith, less_lt e)
 
 module _ (j : Job) (k : ℕ) where
   -- a step at which nothing happens leaves everything
-  pub ran_idles : {head tail top : ℕ} {nodes ops by : List ℕ} → Idling j k → Ran j k head tail top nodes ops by → Ran j (suc k) head tail top nodes ops by
+  pub ran_idles : {object : Object} {nodes ops by : List ℕ} → Idling j k → Ran j k object nodes ops by → Ran j (suc k) object nodes ops by
   unfolding memory
   ran_idles i r =
       record {
@@ -161,11 +162,11 @@ module _ (j : Job) (k : ℕ) (p : Process) (named : j.slot (suc k) ≡ Acts p) w
       places_set j k places p.0 q in_range l (ap (λ (s : State). s.places) (state_acts j k p named e) ∙ ap (upd (state_after j k).places p.0) (sym f))
 
   -- an acting process: memory and journal of one more step
-  pub ran_acts : {head tail top : ℕ} {nodes ops by nodes' ops' by' : List ℕ} {s : Stepped} → resting j place ≡ false → Ran j k head tail top nodes ops by → IsStep place head tail top nodes s nodes' → Stored (event_at place head tail top nodes) (ended s.row) (is_return s.row) place.operation.0 (suc k) ops by ops' by' → Ran j (suc k) s.head s.tail s.top nodes' ops' by'
+  pub ran_acts : {object : Object} {nodes ops by nodes' ops' by' : List ℕ} {s : Stepped} → resting j place ≡ false → Ran j k object nodes ops by → IsStep place object nodes s nodes' → Stored (event_at place object nodes) (ended s.row) (is_return s.row) place.operation.0 (suc k) ops by ops' by' → Ran j (suc k) s.left.object nodes' ops' by'
   unfolding acted event_at
-  ran_acts {head} {tail} {top} {nodes} {ops} {by} {ops' = ops'} {by' = by'} {s = s} e r is stored =
+  ran_acts {object} {nodes} {ops} {by} {ops' = ops'} {by' = by'} {s = s} e r is stored =
       let made = made_from r.memory is in
-      let event : event_at place head tail top nodes ≡ (note j (suc k)).event =
+      let event : event_at place object nodes ≡ (note j (suc k)).event =
       ap (λ (m : Memory). (acted place (reached m place)).event) r.memory ∙ ap (λ (n : Note). n.event) (sym (note_acts j k p named e))
       in
       let answered : is_answer (note j (suc k)).answer ≡ ended s.row =

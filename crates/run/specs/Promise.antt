@@ -11,11 +11,12 @@ use Rattle.job.specs.Limits.{field}
 use Rattle.job.specs.Slot.{is_drop}
 use Rattle.job.specs.Job.{Job, job_of, heading_of}
 use Rattle.job.specs.Ready.{Ready}
+use Rattle.machine.specs.declared.Object.{Object}
 use Rattle.machine.specs.declared.Place.{Place}
 use Rattle.machine.specs.declared.Row.TheVariants.{Q1}
 use Rattle.machine.specs.Table.{ended, is_return}
 use Rattle.machine.specs.Run.{state_after}
-use Rattle.access.specs.Nodes.{memory_of}
+use Rattle.access.specs.Nodes.{object_memory}
 use Rattle.step.specs.declared.Stepped.{Stepped}
 use Rattle.step.specs.Promise.{Inside, event_at, IsStep}
 use Rattle.journal.specs.Stored.{Stored, Countable, HasCells}
@@ -49,8 +50,8 @@ working count [] = 0
 working count (place ∷ places) = still count place.operation.0 + working count places
 
 -- memory and journal are those of the definition after k steps
-pub record Ran (j : Job) (k head tail top : ℕ) (nodes ops by : List ℕ) : Type 0 where
-  pub memory : memory_of head tail top nodes ≡ (state_after j k).memory
+pub record Ran (j : Job) (k : ℕ) (object : Object) (nodes ops by : List ℕ) : Type 0 where
+  pub memory : object_memory object nodes ≡ (state_after j k).memory
   pub journal : Holds j k ops by
 
 -- a row for every node and every operation, and a cell for every step
@@ -69,24 +70,24 @@ pub record AllBlank (nodes ops by : List ℕ) : Type 0 where
   pub no_step : Blank by
 
 -- a place and an object's cells, as a step would give them
-abbrev pub as_it_was : Place → ℕ → ℕ → ℕ → Stepped
-as_it_was place head tail top = record { row = place.row; h = place.h; t = place.t; n = place.n; head = head; tail = tail; top = top }
+abbrev pub as_it_was : Place → Object → Stepped
+as_it_was place object = record { row = place.row; left = record { h = place.h; t = place.t; n = place.n; object = object } }
 
 -- what a drop at a place leaves in its operation's row, by whether that has begun: the operation is over, or nothing changed
-pub data DropLeaves (place : Place) (head tail top : ℕ) (ops : List ℕ) : Bool → Stepped → List ℕ → Type 0 where
-  waits : {ops' : List ℕ} → same (cells ops First place.operation.0) 0 ≡ true → cells ops' ≡ cells ops → DropLeaves place head tail top ops false (as_it_was place head tail top) ops'
-  drops : {ops' : List ℕ} → same (cells ops First place.operation.0) 0 ≡ false → cells ops' ≡ stored Last place.operation.0 dropped_mark (cells ops) → DropLeaves place head tail top ops true (as_it_was place head tail top) ops'
+pub data DropLeaves (place : Place) (object : Object) (ops : List ℕ) : Bool → Stepped → List ℕ → Type 0 where
+  waits : {ops' : List ℕ} → same (cells ops First place.operation.0) 0 ≡ true → cells ops' ≡ cells ops → DropLeaves place object ops false (as_it_was place object) ops'
+  drops : {ops' : List ℕ} → same (cells ops First place.operation.0) 0 ≡ false → cells ops' ≡ stored Last place.operation.0 dropped_mark (cells ops) → DropLeaves place object ops true (as_it_was place object) ops'
 
 -- what a turn of a place leaves: what its step does, or what its drop does, which touches no node and enters no step
-pub data TurnLeaves (slot : Slot) (place : Place) (k head tail top : ℕ) (nodes ops by : List ℕ) : Bool → Stepped → List ℕ → List ℕ → List ℕ → Type 0 where
-  stepped : {over : Bool} {s : Stepped} {nodes' ops' by' : List ℕ} → is_drop slot ≡ false → over ≡ ended s.row → IsStep place head tail top nodes s nodes' → Stored (event_at place head tail top nodes) (ended s.row) (is_return s.row) place.operation.0 k ops by ops' by' → TurnLeaves slot place k head tail top nodes ops by over s nodes' ops' by'
-  dropped : {over : Bool} {s : Stepped} {ops' : List ℕ} → is_drop slot ≡ true → DropLeaves place head tail top ops over s ops' → TurnLeaves slot place k head tail top nodes ops by over s nodes ops' by
+pub data TurnLeaves (slot : Slot) (place : Place) (k : ℕ) (object : Object) (nodes ops by : List ℕ) : Bool → Stepped → List ℕ → List ℕ → List ℕ → Type 0 where
+  stepped : {over : Bool} {s : Stepped} {nodes' ops' by' : List ℕ} → is_drop slot ≡ false → over ≡ ended s.row → IsStep place object nodes s nodes' → Stored (event_at place object nodes) (ended s.row) (is_return s.row) place.operation.0 k ops by ops' by' → TurnLeaves slot place k object nodes ops by over s nodes' ops' by'
+  dropped : {over : Bool} {s : Stepped} {ops' : List ℕ} → is_drop slot ≡ true → DropLeaves place object ops over s ops' → TurnLeaves slot place k object nodes ops by over s nodes ops' by
 
 -- what step k of a place needs: its operation is there and has not ended, and every list has what the step reads or stores
-pub record Makes (place : Place) (k head tail top : ℕ) (nodes ops by : List ℕ) : Type 0 where
+pub record Makes (place : Place) (k : ℕ) (object : Object) (nodes ops by : List ℕ) : Type 0 where
   pub going : ended place.row ≡ false
   pub inside : Inside place.operation.0 place.h place.t nodes
   pub some : 1 ≤ place.operation.0
-  pub noting : HasCells (event_at place head tail top nodes) place.operation.0 ops
+  pub noting : HasCells (event_at place object nodes) place.operation.0 ops
   pub counting : Countable ops
   pub entering : k < length by

@@ -3,6 +3,7 @@
 
 ghost use Rattle.std.specs.Prelude.{◌≡◌, ◌+◌, ◌-◌, ◌≤◌, length};
 ghost use Rattle.job.specs.Job.{«job_of»};
+ghost use Rattle.job.specs.Ready.{Ready};
 ghost use Rattle.machine.specs.Memory.{fresh_memory};
 ghost use Rattle.machine.specs.Table.{ended, is_return};
 ghost use Rattle.machine.specs.Run.{before, «operation_after»};
@@ -14,17 +15,17 @@ ghost use Rattle.journal.specs.Stored.{Stored};
 ghost use Rattle.rows.specs.Operations.{HasOps};
 ghost use Rattle.run.specs.Promise.{Runnable, run_places, InPlace, still, working, DropLeaves, TurnLeaves, Makes, Room, AllBlank, Ran};
 
-use hands::{begin, next_operation};
-use job::{Heading, Limits, Operation, Process, Slot, Step, is_drop, process_of, scheduled};
+use access::Scalars;
+use hands::Source;
+use job::{Heading, Limits, Operation, Process, Slot, Step, Stream, is_drop, process_of};
 use journal::{enter, enter_drop, enter_end, is_waiting, lost_rounds};
-use machine::{Finish, Place};
+use machine::{Finish, Object, Place};
 use place::advanced;
-use rows::{Column, NodeColumn, OpColumn};
 use step::{Stepped, step};
 use table::has_ended;
 
 // The run state: "The eight places, one a process, go from step to step together"; and one for nobody, who is named for an idle step.
-#[derive(Clone, Copy)]
+#[derive(Clone, Copy, Debug, PartialEq, Eq)]
 pub struct Run {
     pub places: [Place; Run::PLACES],
 }
@@ -33,66 +34,18 @@ impl Run {
     pub const PLACES: usize = Limits::PROCESSES + 1;
 }
 
-// The cells of an object that are no node's.
-#[derive(Clone, Copy)]
-pub struct Object {
-    pub head: u16,
-    pub tail: u16,
-    pub top: u16,
-}
-
-impl Object {
-    // A row for node 0 and for each node that an operation may link, and as many rows of operations.
-    pub const NODES: usize = NodeColumn::WIDTH * (Limits::OPERATIONS + 1);
-
-    pub const OPS: usize = OpColumn::WIDTH * (Limits::OPERATIONS + 1);
-
-    // A cell for each step; step 0 is none.
-    pub const STEPS: usize = Limits::STEPS + 1;
-
-    // "A fresh queue has Head and Tail at node 0 and every next none; a fresh stack has Top none and every mark clear." Of the two-way
-    // linked stack: "Top starts there", at sentinel 0.
-    pub fn fresh() -> Self
-        ensures { (result.head ≡ fresh_memory.head) × (result.tail ≡ fresh_memory.tail) × (result.top ≡ fresh_memory.top) }
-    {
-        Object {
-            head: 0,
-            tail: 0,
-            top: 0,
-        }
-    }
-}
-
-// The place of process p before the operation that comes after operation o.
-fn place_after(stream: &[u8], job: Heading, p: Process, o: Operation) -> Place
-    requires { Runnable stream.now job × (o.0 ≤ job.count) }
-    ensures { result ≡ before (job_of stream.now) (operation_after (job_of stream.now) p.0 o.0) }
-{
-    let object = job.object;
-    let q = next_operation(stream, job.count, p, o);
-    begin(stream, object, job.count, q)
-}
-
 // Every process before its first operation, and nobody past the last one.
-fn line_up(stream: &[u8], job: Heading) -> Run
-    requires { Runnable stream.now job }
-    ensures { InPlace (job_of stream.now) 0 result.places }
+fn line_up(source: Source) -> Run
+    requires { Ready source.stream.now }
+    ensures { InPlace (job_of source.entry.stream.now) 0 result.places }
 {
-    let count = job.count;
-    let nobody = place_after(
-        stream,
-        job,
-        Process(Limits::PROCESSES as u8),
-        Operation(count),
-    );
+    let count = source.heading.count;
+    let nobody = source.place_after(Process(Limits::PROCESSES as u8), Operation(count));
     let mut run = Run {
         places: [nobody; Run::PLACES],
     };
-    let mut p: usize = 0;
-    while p < Limits::PROCESSES {
-        let place = place_after(stream, job, Process(p as u8), Operation(0));
-        run.places[p] = place;
-        p += 1;
+    for p in 0..Limits::PROCESSES {
+        run.places[p] = source.place_after(Process(p as u8), Operation(0));
     }
     run
 }
@@ -103,15 +56,10 @@ fn working(run: Run, count: u16) -> u8
     ensures { result ≡ working count run.places }
 {
     let mut total: u8 = 0;
-    let mut p: usize = 0;
-    while p < Run::PLACES {
-        let place = run.places[p];
-        let o = place.operation;
-        p += 1;
-        if count < o.0 {
-            continue;
+    for place in &run.places {
+        if place.operation.0 <= count {
+            total += 1;
         }
-        total += 1;
     }
     total
 }
@@ -132,47 +80,44 @@ fn working_on(total: u8, count: u16, o: Operation) -> u8
 fn make(
     place: Place,
     k: Step,
-    head: u16,
-    tail: u16,
-    top: u16,
+    object: Object,
     nodes: &mut [u16],
     ops: &mut [u16],
     by: &mut [u16],
 ) -> Stepped
-    requires { Makes place k.0 head tail top nodes.old ops.old by.old }
-    ensures step { IsStep place head tail top nodes.old result nodes.new }
-    ensures stored { Stored (event_at place head tail top nodes.old) (ended result.row) (is_return result.row) place.operation.0 k.0 ops.old by.old ops.new by.new }
+    requires { Makes place k.0 object nodes.old ops.old by.old }
+    ensures step { IsStep place object nodes.old result nodes.new }
+    ensures stored { Stored (event_at place object nodes.old) (ended result.row) (is_return result.row) place.operation.0 k.0 ops.old by.old ops.new by.new }
 {
     let o = place.operation;
     enter(o, k, ops, by);
-    let s = step(place, k, head, tail, top, nodes, ops);
-    let row = s.row;
-    enter_end(has_ended(row), o, k, ops);
+    let s = step(place, k, object, nodes, ops);
+    enter_end(has_ended(s.row), o, k, ops);
     s
 }
 
-// What a turn of a place leaves: whether its operation is over, and the place's row and registers and the object's cells.
-#[derive(Clone, Copy)]
+// What a turn of a place leaves: whether its operation is over, and the place's row and registers and the object's cells. A drop at an
+// operation that has not begun leaves them too and is not over, so this is no Option.
+#[derive(Clone, Copy, Debug, PartialEq, Eq)]
 struct Turn {
     over: bool,
     left: Stepped,
 }
 
 // A drop at a place. Document 02: "process p drops its begun operation, then stands before its next; with none begun it is idle".
-fn drop_at(place: Place, head: u16, tail: u16, top: u16, ops: &mut [u16]) -> Turn
+fn drop_at(place: Place, object: Object, ops: &mut [u16]) -> Turn
     requires { HasOps place.operation.0 ops.old }
-    ensures { DropLeaves place head tail top ops.old result.over result.left ops.new }
+    ensures { DropLeaves place object ops.old result.over result.left ops.new }
 {
     let o = place.operation;
-    let row = place.row;
     let left = Stepped {
-        row,
-        h: place.h,
-        t: place.t,
-        n: place.n,
-        head,
-        tail,
-        top,
+        row: place.row,
+        left: Scalars {
+            h: place.h,
+            t: place.t,
+            n: place.n,
+            object,
+        },
     };
     if is_waiting(o, ops) {
         return Turn { over: false, left };
@@ -186,23 +131,20 @@ fn take_turn(
     slot: Slot,
     place: Place,
     k: Step,
-    head: u16,
-    tail: u16,
-    top: u16,
+    object: Object,
     nodes: &mut [u16],
     ops: &mut [u16],
     by: &mut [u16],
 ) -> Turn
-    requires { Makes place k.0 head tail top nodes.old ops.old by.old }
-    ensures { TurnLeaves slot place k.0 head tail top nodes.old ops.old by.old result.over result.left nodes.new ops.new by.new }
+    requires { Makes place k.0 object nodes.old ops.old by.old }
+    ensures { TurnLeaves slot place k.0 object nodes.old ops.old by.old result.over result.left nodes.new ops.new by.new }
 {
     if is_drop(slot) {
-        return drop_at(place, head, tail, top, ops);
+        return drop_at(place, object, ops);
     }
-    let left = make(place, k, head, tail, top, nodes, ops, by);
-    let row = left.row;
+    let left = make(place, k, object, nodes, ops, by);
     Turn {
-        over: has_ended(row),
+        over: has_ended(left.row),
         left,
     }
 }
@@ -210,7 +152,7 @@ fn take_turn(
 // Runs the whole schedule. The lent memory is blank; it is left with the nodes' rows and with the journal. The run is over when no process
 // has operations left, since no step behind that changes anything.
 pub fn run_all(
-    stream: &[u8],
+    stream: &Stream,
     job: Heading,
     nodes: &mut [u16],
     ops: &mut [u16],
@@ -218,58 +160,46 @@ pub fn run_all(
 ) -> Finish
     requires runnable { Runnable stream.now job }
     requires room { Room nodes.old ops.old by.old × AllBlank nodes.old ops.old by.old }
-    ensures ran { Ran (job_of stream.now) job.steps result.head result.tail result.top nodes.new ops.new by.new }
+    ensures ran { Ran (job_of stream.now) job.steps result.object nodes.new ops.new by.new }
     ensures idle_behind { IdleBehind (job_of stream.now) result.reach.0 job.steps }
     ensures lost_value { result.lost ≡ lost (note (job_of stream.now)) job.steps }
 {
-    let count = job.count;
-    let steps = job.steps;
-    let mut run = line_up(stream, job);
-    let mut total = working(run, count);
-    let fresh = Object::fresh();
-    let mut head = fresh.head;
-    let mut tail = fresh.tail;
-    let mut top = fresh.top;
-    let mut k: u16 = 0;
-    while k < steps {
-        k += 1;
-        let slot = scheduled(stream, count, Step(k));
+    let source = Source {
+        stream,
+        heading: job,
+    };
+    let mut run = line_up(source);
+    let mut total = working(run, job.count);
+    let mut object = Object::fresh();
+    let mut reach = Step(job.steps);
+    for made in 0..job.steps {
+        let k = Step(made + 1);
+        let slot = stream.scheduled(job.count, k);
         let p = process_of(slot);
         let i = p.0 as usize;
         let place = run.places[i];
         let o = place.operation;
-        if count < o.0 {
+        if job.count < o.0 {
             continue;
         }
-        let turned = take_turn(slot, place, Step(k), head, tail, top, nodes, ops, by);
+        let turned = take_turn(slot, place, k, object, nodes, ops, by);
         let s = turned.left;
-        head = s.head;
-        tail = s.tail;
-        top = s.top;
+        object = s.left.object;
         if turned.over {
-            let after = place_after(stream, job, p, o);
+            let after = source.place_after(p, o);
             run.places[i] = after;
-            total = working_on(total, count, after.operation);
+            total = working_on(total, job.count, after.operation);
             if total == 0 {
-                return Finish {
-                    head,
-                    tail,
-                    top,
-                    reach: Step(k),
-                    lost: lost_rounds(ops),
-                };
+                reach = k;
+                break;
             }
             continue;
         }
-        let row = s.row;
-        let after = advanced(place, row, s.h, s.t, s.n);
-        run.places[i] = after;
+        run.places[i] = advanced(place, s.row, s.left.h, s.left.t, s.left.n);
     }
     Finish {
-        head,
-        tail,
-        top,
-        reach: Step(k),
+        object,
+        reach,
         lost: lost_rounds(ops),
     }
 }

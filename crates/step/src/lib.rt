@@ -61,6 +61,7 @@ fn helped(d: Accessed, ops: &mut [u16]) -> Accessed
 }
 
 // The access `a` of operation `own`, at step k. It is noted and counted in the arm that makes it, where the compiled code knows what it was.
+// So it is a match: through a closure or a dyn the compiled code would know nothing, and ask again.
 fn perform(
     a: Access,
     own: Operation,

@@ -16,7 +16,7 @@ use Rattle.run.proofs.Loop.{SameLengths, room_kept}
 use Rattle.report.specs.Reported.{Leaves}
 use Rattle.replayer.proofs.replay_in.Goals as goal
 
-left_by_run : {stream : List ℕ} {job : Heading} {end : Finish} {nodes ops by nodes' ops' by' : List ℕ} → Runnable stream job → Room nodes ops by → SameLengths nodes ops by nodes' ops' by' → Ran (job_of stream) job.steps end.head end.tail end.top nodes' ops' by' → IdleBehind (job_of stream) end.reach.0 job.steps → end.lost ≡ lost (note (job_of stream)) job.steps → Leaves (job_of stream) job ops' by' nodes' end
+left_by_run : {stream : List ℕ} {job : Heading} {end : Finish} {nodes ops by nodes' ops' by' : List ℕ} → Runnable stream job → Room nodes ops by → SameLengths nodes ops by nodes' ops' by' → Ran (job_of stream) job.steps end.object nodes' ops' by' → IdleBehind (job_of stream) end.reach.0 job.steps → end.lost ≡ lost (note (job_of stream)) job.steps → Leaves (job_of stream) job ops' by' nodes' end
 left_by_run {nodes' = nodes'} {ops'} {by'} r lent kept ran behind rounds =
     let room : Room nodes' ops' by' = room_kept kept lent in
     record {
