@@ -19,14 +19,14 @@ ghost use Rattle.report.specs.Reported.{Reported};
 ghost use Rattle.replayer.specs.Replay.{job_in, processes_in, job_run, shut_in, replay_number, replay_length, replay_report, replay_work};
 
 use idling::shut;
-use job::{Limits, Refusal};
-use memory::clear;
+use job::{Limits, Refusal, Stream};
 use machine::Object;
+use memory::clear;
 use windows::bad_windows;
 
 // Runs the job of a stream in blank lent memory, and writes its report.
 fn replay_in(
-    stream: &[u8],
+    stream: &Stream,
     nodes: &mut [u16],
     ops: &mut [u16],
     by: &mut [u16],
@@ -36,7 +36,7 @@ fn replay_in(
     requires room { Room nodes.old ops.old by.old × AllBlank nodes.old ops.old by.old }
     ensures { Reported out.old out.new result (Report.report (job_of stream.now)) }
 {
-    let job = job::heading_of(stream);
+    let job = stream.heading();
     let end = run::run_all(stream, job, nodes, ops, by);
     report::write_report(out, stream, job, ops, by, nodes, end)
 }
@@ -49,7 +49,7 @@ fn replay_stream(stream: &[u8], out: &mut [u8]) -> usize
     let mut nodes = [0u16; Object::NODES];
     let mut ops = [0u16; Object::OPS];
     let mut by = [0u16; Object::STEPS];
-    replay_in(stream, &mut nodes, &mut ops, &mut by, out)
+    replay_in(&Stream::over(stream), &mut nodes, &mut ops, &mut by, out)
 }
 
 // The report of the job in a stream, its steps idle where their windows are shut. The stream is cleared afterwards.

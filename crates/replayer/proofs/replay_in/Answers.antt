@@ -5,7 +5,6 @@ use Prim.Native.Nat.{ℕ}
 use native.Mathlib.Omega.{arith}
 use Rattle.job.specs.declared.Heading.{Heading}
 use Rattle.job.specs.Job.{job_of}
-use Rattle.job.proofs.Ready.{header_there}
 use Rattle.machine.specs.declared.Finish.{Finish}
 use Rattle.machine.specs.Notes.{note}
 use Rattle.machine.specs.Lost.{lost}
@@ -33,16 +32,13 @@ left_by_run {nodes' = nodes'} {ops'} {by'} r lent kept ran behind rounds =
     }
 
 pub run_all-end-requires : goal.run_all-end-requires
-run_all-end-requires c = record { runnable = record { ready = c.requires.ready.0; told = c.heading_of-job.ensures }; room = c.requires.room }
+run_all-end-requires c = record { runnable = record { ready = c.requires.ready.0; told = c.heading-job.ensures }; room = c.requires.room }
 
 pub write_report-requires : goal.write_report-requires
 write_report-requires c =
     let kept = c.run_all-end.auto in (
       c.requires.ready.0.whole,
       c.requires.ready.1,
-      left_by_run (record { ready = c.requires.ready.0; told = c.heading_of-job.ensures }) c.requires.room.0
+      left_by_run (record { ready = c.requires.ready.0; told = c.heading-job.ensures }) c.requires.room.0
           (record { of_nodes = kept.nodes; of_ops = kept.ops; of_by = kept.by }) c.run_all-end.ensures.ran c.run_all-end.ensures.idle_behind c.run_all-end.ensures.lost_value,
     )
-
-pub heading_of-job-requires : goal.heading_of-job-requires
-heading_of-job-requires c = header_there c.requires.ready.0
