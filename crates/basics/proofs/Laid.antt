@@ -1,13 +1,13 @@
 -- Bytes laid behind one another from the front of a memory: what stands there, what is to come, and what is behind it.
--- A loop that lays one thing behind the other keeps `Laid`. Assumes nothing.
+-- A loop that copies or lays one thing behind the other keeps `Laid`. Assumes nothing.
 use mathlib.Core.Path.{◌≡◌, refl, sym, ap, subst, ◌∙◌}
-use Prim.Native.Nat.{ℕ, ◌+◌, ◌-◌, ◌*◌, ◌≤◌}
+use Prim.Native.Nat.{ℕ, ◌+◌, ◌-◌, ◌*◌, ◌≤◌, ◌<◌}
 use native.Mathlib.Nat.{mul-suc}
 use native.Mathlib.Numerals.{add-one}
 use native.Mathlib.Omega.{arith}
-use mathlib.Core.List.{List, [], ◌++◌, append_assoc, append-nil}
-use lib.ListN.{length, take, drop, length-append, length-drop, take-append-drop}
-use lib.Seq.{take_at, drop_at, drop-drop, length-take-le}
+use mathlib.Core.List.{List, [], ◌∷◌, ◌++◌, append_assoc, append-nil}
+use lib.ListN.{length, take, drop, get_or, set, drop_of_length-le, length-append, length-drop, take-append-drop}
+use lib.Seq.{take_at, drop_at, drop-drop, set_split, drop-cons, length-take-le}
 
 -- the memory `m`, which was `start`: before `at` stands all of `whole` but the `rest` at its end, and from there on all is as it was
 pub record Laid (start m : List ℕ) (at : ℕ) (rest whole : List ℕ) : Type 0 where
@@ -37,10 +37,26 @@ laid_more {start} {m} {rest} {whole} {at} m' new l room e =
           omega (arith, l.size);
     }
 
+-- one byte
+laid_byte : {start m rest whole : List ℕ} {at : ℕ} (x : ℕ) → Laid start m at (x ∷ rest) whole → at < length m → Laid start (set m at x) (at + 1) rest whole
+laid_byte {start} {m} {rest} {whole} {at} x l room =
+    laid_more (set m at x) (x ∷ []) l (omega arith) (set_split m at x room ∙ ap (λ (y : List ℕ). take at m ++ x ∷ y) (ap (λ (k : ℕ). drop k m) (sym (add-one at)) ∙ sym (drop-drop 1 at m)))
+
 -- where nothing is to come
 laid_all : {start m whole : List ℕ} {at : ℕ} → Laid start m at [] whole → m ≡ whole ++ drop at start
 laid_all {start} {m} {whole} {at} l =
     sym (take-append-drop at m) ∙ ap (λ (x : List ℕ). x ++ drop at m) (sym (append-nil (take at m)) ∙ l.front) ∙ ap (λ (x : List ℕ). whole ++ x) l.back
+
+-- a copy of one list: one byte more, and the end
+pub laid_copied : {start m from : List ℕ} {i : ℕ} → Laid start m i (drop i from) from → i < length from → i < length m
+    → Laid start (set m i (get_or from i 0)) (i + 1) (drop (i + 1) from) from
+laid_copied {start} {m} {from} {i} l more room =
+    laid_byte (get_or from i 0) (subst (λ (x : List ℕ). Laid start m i x from) (rw (add-one, drop-cons from i 0)) l) room
+
+pub laid_copy : {start m from : List ℕ} {i : ℕ} → Laid start m i (drop i from) from → i ≤ length from → length from ≤ i → m ≡ from ++ drop (length from) start
+laid_copy {start} {m} {from} {i} l low high =
+    let done : i ≡ length from = omega arith in
+    laid_all (subst (λ (x : List ℕ). Laid start m (length from) x from) (drop_of_length-le from {i = length from} (omega arith)) (subst (λ (k : ℕ). Laid start m k (drop k from) from) done l))
 
 -- pieces of one size: the next one, and the end
 pub laid_piece : {start m rest whole : List ℕ} (size i : ℕ) (m' new : List ℕ) → Laid start m (size * i) (new ++ rest) whole → length new ≡ size
