@@ -20,7 +20,7 @@ ghost use Rattle.idling.specs.Rewritten.{Rewritten};
 ghost use Rattle.idling.specs.Entries.{entry_kept, entries_kept, may_act, first_entry};
 
 use calendar::{weekday_after, weekday_before, weekday_of};
-use job::{Limits, operations, process_of, schedule_at, schedule_length, slot_of};
+use job::{Limits, Slot, operations, schedule_at, schedule_length};
 use windows::{closing, day, month, opening, second, weekdays, year};
 
 // The minutes of a day.
@@ -183,7 +183,7 @@ fn kept(allowed: Allowed, entry: u8) -> u8
     requires { (length allowed.processes ≡ field.processes) × (process_of (slot_of entry) < field.processes) }
     ensures { result ≡ entry_kept (λ p. get_or allowed.processes p false) entry }
 {
-    let p = process_of(slot_of(entry));
+    let p = Slot::from(entry).process();
     let i = p.0 as usize;
     let may = allowed.processes[i];
     let open = may as u8;
