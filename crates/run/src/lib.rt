@@ -17,7 +17,7 @@ ghost use Rattle.run.specs.Promise.{Runnable, run_places, InPlace, still, workin
 
 use access::Scalars;
 use hands::Source;
-use job::{Heading, Limits, Operation, Process, Slot, Step, Stream, is_drop, process_of};
+use job::{Heading, Limits, Operation, Process, Slot, Step, Stream};
 use journal::{enter, enter_drop, enter_end, is_waiting, lost_rounds};
 use machine::{Finish, Object, Place};
 use place::advanced;
@@ -139,7 +139,7 @@ fn take_turn(
     requires { Makes place k.0 object nodes.old ops.old by.old }
     ensures { TurnLeaves slot place k.0 object nodes.old ops.old by.old result.over result.left nodes.new ops.new by.new }
 {
-    if is_drop(slot) {
+    if slot.is_drop() {
         return drop_at(place, object, ops);
     }
     let left = make(place, k, object, nodes, ops, by);
@@ -175,7 +175,7 @@ pub fn run_all(
     for made in 0..job.steps {
         let k = Step(made + 1);
         let slot = stream.scheduled(job.count, k);
-        let p = process_of(slot);
+        let p = slot.process();
         let i = p.0 as usize;
         let place = run.places[i];
         let o = place.operation;

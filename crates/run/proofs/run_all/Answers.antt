@@ -40,45 +40,45 @@ scheduled-slot-requires c = let r = c.requires.runnable in
     (its_count r, entry_read r _ (omega (arith, c.loop-made-test.true)))
 
 pub overflow_cast-i : goal.overflow_cast-i
-overflow_cast-i c = omega (arith, p_in_range c.requires.runnable c.loop-made.invariant.0 c.loop-made-test.true c.scheduled-slot.ensures _ c.process_of-p.ensures)
+overflow_cast-i c = omega (arith, p_in_range c.requires.runnable c.loop-made.invariant.0 c.loop-made-test.true c.scheduled-slot.ensures _ c.process-p.ensures)
 
 pub offset_bounds-run-i : goal.offset_bounds-run-i
-offset_bounds-run-i c = omega (arith, p_in_range c.requires.runnable c.loop-made.invariant.0 c.loop-made-test.true c.scheduled-slot.ensures _ c.process_of-p.ensures)
+offset_bounds-run-i c = omega (arith, p_in_range c.requires.runnable c.loop-made.invariant.0 c.loop-made-test.true c.scheduled-slot.ensures _ c.process-p.ensures)
 
 pub bounds-run-i : goal.bounds-run-i
-bounds-run-i c = p_in_range c.requires.runnable c.loop-made.invariant.0 c.loop-made-test.true c.scheduled-slot.ensures _ c.process_of-p.ensures
+bounds-run-i c = p_in_range c.requires.runnable c.loop-made.invariant.0 c.loop-made-test.true c.scheduled-slot.ensures _ c.process-p.ensures
 
 pub loop-made-preserved-then-job-o : goal.loop-made-preserved-then-job-o
-loop-made-preserved-then-job-o c = (turning_rests c.requires.runnable c.loop-made.invariant.0 c.loop-made-test.true c.scheduled-slot.ensures _ c.process_of-p.ensures c.if-job-o.true, c.loop-made.invariant.1)
+loop-made-preserved-then-job-o c = (turning_rests c.requires.runnable c.loop-made.invariant.0 c.loop-made-test.true c.scheduled-slot.ensures _ c.process-p.ensures c.if-job-o.true, c.loop-made.invariant.1)
 
 pub take_turn-turned-requires : goal.take_turn-turned-requires
-take_turn-turned-requires c = makes c.requires.runnable c.loop-made.invariant.0 c.loop-made-test.true c.scheduled-slot.ensures _ c.process_of-p.ensures c.requires.room.0 c.if-job-o.false
+take_turn-turned-requires c = makes c.requires.runnable c.loop-made.invariant.0 c.loop-made-test.true c.scheduled-slot.ensures _ c.process-p.ensures c.requires.room.0 c.if-job-o.false
 
 pub offset_bounds-run-i-then-turned : goal.offset_bounds-run-i-then-turned
-offset_bounds-run-i-then-turned c = omega (arith, p_in_range c.requires.runnable c.loop-made.invariant.0 c.loop-made-test.true c.scheduled-slot.ensures _ c.process_of-p.ensures)
+offset_bounds-run-i-then-turned c = omega (arith, p_in_range c.requires.runnable c.loop-made.invariant.0 c.loop-made-test.true c.scheduled-slot.ensures _ c.process-p.ensures)
 
 pub offset_bounds-run-i-in-loop-made : goal.offset_bounds-run-i-in-loop-made
-offset_bounds-run-i-in-loop-made c = omega (arith, p_in_range c.requires.runnable c.loop-made.invariant.0 c.loop-made-test.true c.scheduled-slot.ensures _ c.process_of-p.ensures)
+offset_bounds-run-i-in-loop-made c = omega (arith, p_in_range c.requires.runnable c.loop-made.invariant.0 c.loop-made-test.true c.scheduled-slot.ensures _ c.process-p.ensures)
 
 pub bounds-run-i-then-turned : goal.bounds-run-i-then-turned
-bounds-run-i-then-turned c = p_in_range c.requires.runnable c.loop-made.invariant.0 c.loop-made-test.true c.scheduled-slot.ensures _ c.process_of-p.ensures
+bounds-run-i-then-turned c = p_in_range c.requires.runnable c.loop-made.invariant.0 c.loop-made-test.true c.scheduled-slot.ensures _ c.process-p.ensures
 
 pub bounds-run-i-in-loop-made : goal.bounds-run-i-in-loop-made
-bounds-run-i-in-loop-made c = p_in_range c.requires.runnable c.loop-made.invariant.0 c.loop-made-test.true c.scheduled-slot.ensures _ c.process_of-p.ensures
+bounds-run-i-in-loop-made c = p_in_range c.requires.runnable c.loop-made.invariant.0 c.loop-made-test.true c.scheduled-slot.ensures _ c.process-p.ensures
 
 pub working_on-total-requires : goal.working_on-total-requires
-working_on-total-requires c = counted_in c.requires.runnable c.loop-made.invariant.0 c.loop-made-test.true c.scheduled-slot.ensures _ c.process_of-p.ensures c.if-job-o.false
+working_on-total-requires c = counted_in c.requires.runnable c.loop-made.invariant.0 c.loop-made-test.true c.scheduled-slot.ensures _ c.process-p.ensures c.if-job-o.false
 
 pub loop-made-preserved-then-turned : goal.loop-made-preserved-then-turned
 loop-made-preserved-then-turned c = (
-  turning_over c.requires.runnable c.loop-made.invariant.0 c.loop-made-test.true c.scheduled-slot.ensures _ c.process_of-p.ensures c.place_after-after.result c.take_turn-turned.ensures c.if-turned.true c.if-job-o.false
+  turning_over c.requires.runnable c.loop-made.invariant.0 c.loop-made-test.true c.scheduled-slot.ensures _ c.process-p.ensures c.place_after-after.result c.take_turn-turned.ensures c.if-turned.true c.if-job-o.false
       c.place_after-after.ensures c.working_on-total.ensures (record { of_nodes = c.take_turn-turned.auto.nodes; of_ops = c.take_turn-turned.auto.ops; of_by = c.take_turn-turned.auto.by }),
   c.loop-made.invariant.1,
 )
 
 pub loop-made-preserved : goal.loop-made-preserved
 loop-made-preserved c = (
-  turning_on c.requires.runnable c.loop-made.invariant.0 c.loop-made-test.true c.scheduled-slot.ensures _ c.process_of-p.ensures c.advanced.result c.take_turn-turned.ensures c.if-turned.false c.if-job-o.false
+  turning_on c.requires.runnable c.loop-made.invariant.0 c.loop-made-test.true c.scheduled-slot.ensures _ c.process-p.ensures c.advanced.result c.take_turn-turned.ensures c.if-turned.false c.if-job-o.false
       c.advanced.ensures (record { of_nodes = c.take_turn-turned.auto.nodes; of_ops = c.take_turn-turned.auto.ops; of_by = c.take_turn-turned.auto.by }),
   c.loop-made.invariant.1,
 )
