@@ -1,12 +1,12 @@
 -- Bytes laid behind one another from the front of a memory: what stands there, what is to come, and what is behind it.
--- A loop that copies, clears or lays one thing behind the other keeps `Laid`. Assumes nothing.
+-- A loop that copies or lays one thing behind the other keeps `Laid`. Assumes nothing.
 use mathlib.Core.Path.{◌≡◌, refl, sym, ap, subst, ◌∙◌}
 use Prim.Native.Nat.{ℕ, ◌+◌, ◌-◌, ◌*◌, ◌≤◌, ◌<◌}
 use native.Mathlib.Nat.{mul-suc}
 use native.Mathlib.Numerals.{add-one}
 use native.Mathlib.Omega.{arith}
 use mathlib.Core.List.{List, [], ◌∷◌, ◌++◌, append_assoc, append-nil}
-use lib.ListN.{length, take, drop, get_or, set, replicate, length-replicate, get_or-replicate, drop_of_length-le, length-append, length-drop, take-append-drop}
+use lib.ListN.{length, take, drop, get_or, set, drop_of_length-le, length-append, length-drop, take-append-drop}
 use lib.Seq.{take_at, drop_at, drop-drop, set_split, drop-cons, length-take-le}
 
 -- the memory `m`, which was `start`: before `at` stands all of `whole` but the `rest` at its end, and from there on all is as it was
@@ -57,14 +57,6 @@ pub laid_copy : {start m from : List ℕ} {i : ℕ} → Laid start m i (drop i f
 laid_copy {start} {m} {from} {i} l low high =
     let done : i ≡ length from = omega arith in
     laid_all (subst (λ (x : List ℕ). Laid start m (length from) x from) (drop_of_length-le from {i = length from} (omega arith)) (subst (λ (k : ℕ). Laid start m k (drop k from) from) done l))
-
--- zeros: one more
-pub laid_zero : {start m : List ℕ} {i n : ℕ} → Laid start m i (drop i (replicate n 0)) (replicate n 0) → i < n → i < length m
-    → Laid start (set m i 0) (i + 1) (drop (i + 1) (replicate n 0)) (replicate n 0)
-laid_zero {start} {m} {i} {n} l more room =
-    let zeros : List ℕ = replicate n 0 in
-    let size : length zeros ≡ n = length-replicate n 0 in
-    subst (λ (x : ℕ). Laid start (set m i x) (i + 1) (drop (i + 1) zeros) zeros) (get_or-replicate n i 0 0 more) (laid_copied l (omega arith) room)
 
 -- pieces of one size: the next one, and the end
 pub laid_piece : {start m rest whole : List ℕ} (size i : ℕ) (m' new : List ℕ) → Laid start m (size * i) (new ++ rest) whole → length new ≡ size

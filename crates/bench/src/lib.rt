@@ -3,6 +3,7 @@
 
 ghost use Rattle.std.specs.Prelude.{◌≡◌, List, ℕ, ◌<◌, ◌^◌};
 ghost use Rattle.job.specs.declared.Kind.TheVariants.{Queue};
+ghost use Rattle.job.specs.Answer.{answer_number, answer_length};
 ghost use Rattle.job.specs.Limits.{field};
 ghost use Rattle.job.specs.Calls.{read_number, read_length, read_work, write_number, write_length, write_out};
 ghost use Rattle.job.specs.File.{file_refusal, stream_of};
@@ -16,14 +17,18 @@ ghost use Rattle.remains.specs.Claims.{Undamaged, Proper, Blocks_of};
 ghost use Rattle.replayer.specs.Replay.{job_in, processes_in, job_run, shut_in, replay_number, replay_length, replay_report, replay_work};
 ghost use Rattle.bench.specs.Packed.{packed};
 
-use job::{Limits, Reply};
+use job::{Limits, Refusal};
 
-// A reply as one number.
-fn pack(r: Reply) -> u64
-    requires { r.length < 2 ^ 32 }
-    ensures { result ≡ packed r.number r.length }
+// An answer as one number.
+#[tactic(auto, unfolding(crate::specs::Packed::packed))]
+fn pack(answer: Result<usize, Refusal>) -> u64
+    requires { answer_length answer < 2 ^ 32 }
+    ensures { result ≡ packed (answer_number answer) (answer_length answer) }
 {
-    (r.number as u64) * 4294967296 + r.length as u64
+    match answer {
+        Ok(length) => length as u64,
+        Err(refusal) => u64::from(refusal.number()) * 4294967296,
+    }
 }
 
 // Replays the job in a file, with its window block or none: the report's length, and the report in the report memory.
@@ -72,9 +77,6 @@ pub extern "C" fn bench_salvage(file: &[u8], work: &mut [u8], out: &mut [u8]) ->
     ensures proper { salvage_refusal field file.now ≡ 0 → Proper field file.now }
     ensures answers { salvage_refusal field file.now ≡ 0 → (whole : List ℕ) → file_refusal field whole ≡ 0 → Blocks_of whole file.now → KeptRun (job_of (stream_of whole)) (job_of (stream_of (salvaged file.now))) }
 {
-    let r = salvager::salvage(Limits::field(), file, work, out);
-    pack(Reply {
-        number: r.number,
-        length: r.length,
-    })
+    let answer = salvager::salvage(Limits::field(), file, work, out);
+    pack(answer.map(|salvaged| salvaged.length))
 }

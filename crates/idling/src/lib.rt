@@ -21,7 +21,7 @@ ghost use Rattle.idling.specs.Rewritten.{Rewritten};
 ghost use Rattle.idling.specs.Entries.{entry_kept, entries_kept, may_act, first_entry};
 
 use calendar::Weekday;
-use job::{Limits, Process, operations, process_of, schedule_at, schedule_length, slot_of};
+use job::{Limits, Process, Slot, operations, schedule_at, schedule_length};
 use std::array;
 use windows::{DAY_MINUTES, entry_of, second, start_date};
 
@@ -144,7 +144,7 @@ fn kept(allowed: &Allowed, entry: u8) -> u8
     requires { process_of (slot_of entry) < field.processes }
     ensures { result ≡ entry_kept (λ p. get_or allowed.now p false) entry }
 {
-    let p = process_of(slot_of(entry));
+    let p = Slot::from(entry).process();
     let open = allowed[p.0 as usize] as u8;
     entry * open + NOBODY * (1 - open)
 }

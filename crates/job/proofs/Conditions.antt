@@ -6,10 +6,9 @@ use native.Mathlib.Numerals.{add-one}
 use native.Mathlib.Omega.{arith}
 use mathlib.Core.Bool.{Bool, true, false, ◌||◌, true≢false}
 use mathlib.Core.List.{List, [], ◌∷◌, ◌++◌}
-use lib.Dec.{ltb}
-use Rattle.basics.specs.Choice.{pick, less}
-use Rattle.basics.proofs.Choice.{pick_true, pick_false, pick_elim, lt_less, le_less, both, split}
-use Rattle.job.specs.Refusals.{first_met, any, outside}
+use Rattle.basics.specs.Choice.{pick}
+use Rattle.basics.proofs.Choice.{pick_true, pick_false, pick_elim, both, split}
+use Rattle.job.specs.Refusals.{first_met, any}
 
 pub met_here : (n : ℕ) {b : Bool} (l : List (ℕ × Bool)) → b ≡ true → n ≡ first_met ((n, b) ∷ l)
 unfolding first_met
@@ -56,14 +55,6 @@ module _ (f : ℕ → Bool) {i n : ℕ} where
   pub any_joined : (found : Bool) → n ≤ i → found ≡ found || any f i (n - i)
   any_joined true h = refl
   any_joined false h = any_end h
-
-pub below_outside : (low high n : ℕ) → n < low → true ≡ outside low high n
-unfolding outside
-below_outside low high n h = simp (lt_less h)
-
-pub above_outside : (low high n : ℕ) → low ≤ n → ltb high n ≡ outside low high n
-unfolding outside less
-above_outside low high n h = simp (le_less h)
 
 -- two lists of conditions: the first decides where it has one that is met
 pub met_front : (l m : List (ℕ × Bool)) → first_met l ≢ 0 → first_met l ≡ first_met (l ++ m)

@@ -7,6 +7,7 @@ pub mod Tests
 pub mod Blocks
 pub mod Table
 pub mod Accepted
+pub mod Answered
 pub mod Padded
 pub mod Pieces
 pub mod Alike

@@ -36,6 +36,40 @@ pub enum Slot {
     Drops(Process),
 }
 
+// What an entry of the schedule names. Document 02: "A schedule entry 128 + p is a numbered step in which process p drops".
+impl From<u8> for Slot {
+    ghost from_gives = { λ entry slot. slot ≡ slot_of entry };
+
+    #[tactic(auto, unfolding(crate::specs::Slot::slot_of, basics::specs::Choice::pick, basics::specs::Choice::same, basics::specs::Choice::less))]
+    fn from(entry: u8) -> Slot {
+        if entry < 128 {
+            Slot::Acts(Process(entry))
+        } else {
+            Slot::Drops(Process(entry - 128))
+        }
+    }
+}
+
+impl Slot {
+    // The process that is named.
+    #[tactic(auto, unfolding(crate::specs::Slot::process_of))]
+    pub fn process(self) -> Process
+        ensures { result.0 ≡ process_of self }
+    {
+        match self {
+            Slot::Acts(p) | Slot::Drops(p) => p,
+        }
+    }
+
+    // Does it drop its operation?
+    #[tactic(auto, unfolding(crate::specs::Slot::is_drop))]
+    pub fn is_drop(self) -> bool
+        ensures { result ≡ is_drop self }
+    {
+        matches!(self, Slot::Drops(_))
+    }
+}
+
 // The objects of a job.
 #[derive(Clone, Copy, PartialEq, Eq)]
 pub enum Kind {
@@ -286,36 +320,6 @@ pub fn schedule_at(count: u16) -> usize
     5 + 4 * usize::from(count)
 }
 
-// What an entry of the schedule names. Document 02: "A schedule entry 128 + p is a numbered step in which process p drops".
-#[tactic(auto, unfolding(crate::specs::Slot::slot_of, basics::specs::Choice::pick, basics::specs::Choice::same, basics::specs::Choice::less))]
-pub fn slot_of(entry: u8) -> Slot
-    ensures { result ≡ slot_of entry }
-{
-    if entry < 128 {
-        Slot::Acts(Process(entry))
-    } else {
-        Slot::Drops(Process(entry - 128))
-    }
-}
-
-// The process that is named.
-#[tactic(auto, unfolding(crate::specs::Slot::process_of))]
-pub fn process_of(slot: Slot) -> Process
-    ensures { result.0 ≡ process_of slot }
-{
-    match slot {
-        Slot::Acts(p) | Slot::Drops(p) => p,
-    }
-}
-
-// Does it drop its operation?
-#[tactic(auto, unfolding(crate::specs::Slot::is_drop))]
-pub fn is_drop(slot: Slot) -> bool
-    ensures { result ≡ is_drop slot }
-{
-    matches!(slot, Slot::Drops(_))
-}
-
 // What the schedule names for a step, in a stream of so many operations.
 #[tactic(auto, unfolding(crate::specs::Job::job_of, crate::specs::Stream::scheduled, basics::specs::Maps::at))]
 pub fn scheduled(s: &[u8], count: u16, k: Step) -> Slot
@@ -323,7 +327,7 @@ pub fn scheduled(s: &[u8], count: u16, k: Step) -> Slot
     ensures { result ≡ (job_of s.now).slot k.0 }
 {
     let place = schedule_at(count);
-    slot_of(s[place + usize::from(k.0)])
+    Slot::from(s[place + usize::from(k.0)])
 }
 
 // The length of the stream itself, without padding.
@@ -405,7 +409,7 @@ fn bad_records(s: &[u8]) -> bool
 fn bad_entry(entry: u8, processes: u8) -> bool
     ensures { result ≡ not (less (process_of (slot_of entry)) processes) }
 {
-    process_of(slot_of(entry)).0 >= processes
+    Slot::from(entry).process().0 >= processes
 }
 
 // Is an entry of the schedule out of range? All are looked at, also behind one that is: compiled code then looks at many at once.

@@ -22,12 +22,15 @@ pub fn put_word(to: &mut [u8], n: u16)
     to[1] = (n % 256) as u8;
 }
 
-// All bytes of one memory, at the front of another.
+// All bytes of one memory, at the front of another. A loop, since `copy_from_slice` calls memmove: `include/bench.h` says that memset is all that the
+// library needs of C.
 pub fn copy(to: &mut [u8], from: &[u8])
     requires { length from.now ≤ length to.old }
     ensures { to.new ≡ over from.now to.old }
 {
-    to[..from.len()].copy_from_slice(from);
+    for (i, x) in from.iter().enumerate() {
+        to[i] = *x;
+    }
 }
 
 // Zeros throughout.

@@ -11,8 +11,8 @@ use Rattle.memory.specs.Over.{over}
 use Rattle.memory.proofs.Over.{drop_more}
 use Rattle.block.specs.Block.{block_size, payload_size, payload_of, block_refusal}
 use Rattle.block.specs.Checked.{number_of, bytes_of}
-use Rattle.block.specs.declared.Checked.{Checked}
-use Rattle.block.specs.declared.Checked.TheVariants.{Payload}
+use Rattle.std.specs.Prelude.{Result, Ok}
+use Rattle.block.specs.declared.BlockError.{BlockError}
 use Rattle.block.proofs.Accepted.{length_payload}
 use Rattle.block.proofs.Given.{refused_bytes}
 use Rattle.job.specs.File.{block_at, payloads, blocks_refusal}
@@ -34,20 +34,20 @@ joining_none file m n =
     }
 
 -- what the block at `i` leaves under an answer
-abbrev pub Taken : List ℕ → List ℕ → ℕ → Checked → List ℕ → Type 0
+abbrev pub Taken : List ℕ → List ℕ → ℕ → Result Unit BlockError → List ℕ → Type 0
 Taken file m i r m' =
     (number_of r ≡ block_refusal i (block_at file i))
     × (m' ≡ take (payload_size * i) m ++ over (bytes_of r (block_at file i)) (drop (payload_size * i) m))
 
 -- a refused block leaves the memory as it was
-pub refused_keeps : (file m m' : List ℕ) (i : ℕ) (r : Checked) → Taken file m i r m' → number_of r ≢ 0 → m' ≡ m
+pub refused_keeps : (file m m' : List ℕ) (i : ℕ) (r : Result Unit BlockError) → Taken file m i r m' → number_of r ≢ 0 → m' ≡ m
 refused_keeps file m m' i r t refused =
     t.1
     ∙ ap (λ (x : List ℕ). take (payload_size * i) m ++ over x (drop (payload_size * i) m)) (refused_bytes r (block_at file i) refused)
     ∙ take-append-drop (payload_size * i) m
 
-module _ {file start m m' : List ℕ} {n i : ℕ} (j : Joining file start m n i) (more : i < n) (r : Checked) (t : Taken file m i r m') where
-  pub joining_next : length file ≡ block_size * n → payload_size * n ≤ length m → r ≡ Payload → Joining file start m' n (i + 1)
+module _ {file start m m' : List ℕ} {n i : ℕ} (j : Joining file start m n i) (more : i < n) (r : Result Unit BlockError) (t : Taken file m i r m') where
+  pub joining_next : length file ≡ block_size * n → payload_size * n ≤ length m → r ≡ Ok tt → Joining file start m' n (i + 1)
   unfolding payload_size block_size bytes_of
   joining_next whole room e =
       let b : List ℕ = block_at file i in
@@ -59,7 +59,7 @@ module _ {file start m m' : List ℕ} {n i : ℕ} (j : Joining file start m n i)
             (subst (λ (x : List ℕ). Laid start m (payload_size * i) x (payloads file 0 n)) (payloads_next file more) j.laid)
             (length_payload b (length_block_at file i (omega arith)))
             (omega arith)
-            (t.1 ∙ ap (λ (a : Checked). take (payload_size * i) m ++ over (bytes_of a b) (drop (payload_size * i) m)) e);
+            (t.1 ∙ ap (λ (a : Result Unit BlockError). take (payload_size * i) m ++ over (bytes_of a b) (drop (payload_size * i) m)) e);
         decided = refusal_next file more good ∙ j.decided;
       }
 

@@ -3,7 +3,7 @@
 
 ghost use Rattle.console.specs.Counts.{IsPrefixLen};
 
-use block::Checked;
+use block::BLOCK;
 use console::{read_full, refuse, show};
 use job::Limits;
 use std::env::FillError;
@@ -14,7 +14,7 @@ use std::rt::{Env, Files};
 // One byte more than the longest file, and than a block, so that a longer input is seen to be longer: its length is refused.
 const INPUT: usize = Limits::FILE + 1;
 
-const WINDOWS: usize = Checked::BLOCK + 1;
+const WINDOWS: usize = BLOCK + 1;
 
 // The longest name of a file.
 const NAME: usize = 4095;
@@ -70,18 +70,14 @@ fn main(rt: HostRuntime) {
     let m = load_windows(&rt, &mut windows);
     let mut work = [0u8; Limits::STREAM];
     let mut report = [0u8; Limits::REPORT];
-    let r = replayer::replay(
+    match replayer::replay(
         Limits::field(),
         &file[..n],
         &windows[..m],
         &mut work,
         &mut report,
-    );
-    let number = r.number;
-    let length = r.length;
-    if number != 0 {
-        refuse(&mut rt.stdout(), number);
-    } else {
-        show(&mut rt.stdout(), &report, length);
-    }
+    ) {
+        Ok(length) => show(&mut rt.stdout(), &report, length),
+        Err(refusal) => refuse(&mut rt.stdout(), refusal.number()),
+    };
 }

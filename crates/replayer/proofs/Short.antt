@@ -5,7 +5,6 @@ use native.Mathlib.Omega.{arith}
 use mathlib.Core.List.{List}
 use lib.ListN.{length}
 use Rattle.basics.specs.Bytes.{Bytes}
-use Rattle.basics.specs.Maps.{at}
 use Rattle.basics.specs.Words.{word}
 use Rattle.job.specs.declared.Limits.{Limits}
 use Rattle.job.specs.Limits.{field, Sound}

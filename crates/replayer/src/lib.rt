@@ -3,6 +3,7 @@
 
 ghost use Rattle.std.specs.Prelude.{◌≡◌, ◌≤◌, false, ◌++◌, length, take, drop};
 ghost use Rattle.job.specs.declared.Kind.TheVariants.{Queue};
+ghost use Rattle.job.specs.Answer.{answer_number, answer_length};
 ghost use Rattle.job.specs.Limits.{most_stream, Sound};
 ghost use Rattle.job.specs.File.{zeros};
 ghost use Rattle.job.specs.Job.{job_of};
@@ -18,7 +19,7 @@ ghost use Rattle.report.specs.Reported.{Reported};
 ghost use Rattle.replayer.specs.Replay.{job_in, processes_in, job_run, shut_in, replay_number, replay_length, replay_report, replay_work};
 
 use idling::shut;
-use job::{Limits, Reply};
+use job::{Limits, Refusal};
 use memory::clear;
 use run::Object;
 use windows::bad_windows;
@@ -75,17 +76,6 @@ fn replay_held(limits: Limits, windows: &[u8], work: &mut [u8], report: &mut [u8
     replay_within(windows, &mut work[..end], report)
 }
 
-// Turns back a job whose window block is not right: the work memory is left clear.
-fn turn_back(limits: Limits, work: &mut [u8]) -> Reply
-    requires { Sound limits × (most_stream limits ≤ length work.old) }
-    ensures reply { (result.number ≡ 13) × (result.length ≡ 0) }
-    ensures cleared { work.new ≡ zeros (most_stream limits) ++ drop (most_stream limits) work.old }
-{
-    let end = limits.most_stream();
-    clear(&mut work[..end]);
-    Reply::refused(13)
-}
-
 // Replays the job in a file, with its windows: the number and the length. Accepted, the report stands in the report memory; the work memory is left
 // clear, but for a call whose memory is too small, which touches nothing.
 pub fn replay(
@@ -94,26 +84,25 @@ pub fn replay(
     windows: &[u8],
     work: &mut [u8],
     report: &mut [u8],
-) -> Reply
+) -> Result<usize, Refusal>
     requires { Sound limits }
-    ensures number { result.number ≡ replay_number limits file.now windows.now work.old report.old }
-    ensures size { result.length ≡ replay_length limits file.now windows.now work.old report.old }
+    ensures number { answer_number result ≡ replay_number limits file.now windows.now work.old report.old }
+    ensures size { answer_length result ≡ replay_length limits file.now windows.now work.old report.old }
     ensures report { report.new ≡ replay_report limits file.now windows.now work.old report.old }
     ensures work { work.new ≡ replay_work limits work.old report.old }
-    ensures explained { result.number ≡ 0 → Explained (job_run file.now windows.now) (job_run file.now windows.now).steps }
-    ensures bounded { result.number ≡ 0 → (job_in file.now).object ≡ Queue → Bounded (job_run file.now windows.now) (job_run file.now windows.now).steps (processes_in file.now) }
-    ensures cut { result.number ≡ 0 → SameAsCut (shut_in file.now windows.now) (job_in file.now) }
+    ensures explained { answer_number result ≡ 0 → Explained (job_run file.now windows.now) (job_run file.now windows.now).steps }
+    ensures bounded { answer_number result ≡ 0 → (job_in file.now).object ≡ Queue → Bounded (job_run file.now windows.now) (job_run file.now windows.now).steps (processes_in file.now) }
+    ensures cut { answer_number result ≡ 0 → SameAsCut (shut_in file.now windows.now) (job_in file.now) }
 {
     if report.len() < limits.report {
-        return Reply::refused(1);
+        return Err(Refusal::ShortMemory);
     }
-    let r = reader::read(limits, file, work);
-    if r.number != 0 {
-        return r;
-    }
+    reader::read(limits, file, work)?;
     if bad_windows(windows) {
-        return turn_back(limits, work);
+        let end = limits.most_stream();
+        clear(&mut work[..end]);
+        return Err(Refusal::BadWindows);
     }
     let length = replay_held(limits, windows, work, report);
-    Reply { number: 0, length }
+    Ok(length)
 }

@@ -15,7 +15,7 @@ ghost use Rattle.rows.specs.Operations.{HasOps};
 ghost use Rattle.run.specs.Promise.{Runnable, run_places, InPlace, still, working, DropLeaves, TurnLeaves, Makes, Room, AllBlank, Ran};
 
 use hands::{begin, next_operation};
-use job::{Heading, Limits, Operation, Process, Slot, Step, is_drop, process_of, scheduled};
+use job::{Heading, Limits, Operation, Process, Slot, Step, scheduled};
 use journal::{enter, enter_drop, enter_end, is_waiting, lost_rounds};
 use machine::{Finish, Place};
 use place::advanced;
@@ -195,7 +195,7 @@ fn take_turn(
     requires { Makes place k.0 head tail top nodes.old ops.old by.old }
     ensures { TurnLeaves slot place k.0 head tail top nodes.old ops.old by.old result.over result.left nodes.new ops.new by.new }
 {
-    if is_drop(slot) {
+    if slot.is_drop() {
         return drop_at(place, head, tail, top, ops);
     }
     let left = make(place, k, head, tail, top, nodes, ops, by);
@@ -233,7 +233,7 @@ pub fn run_all(
     while k < steps {
         k += 1;
         let slot = scheduled(stream, count, Step(k));
-        let p = process_of(slot);
+        let p = slot.process();
         let i = p.0 as usize;
         let place = run.places[i];
         let o = place.operation;

@@ -41,14 +41,11 @@ fn main(rt: HostRuntime) {
     let n = read_full(&mut rt.stdin(), &mut file);
     let mut work = [0u8; Limits::STREAM];
     let mut out = [0u8; Limits::FILE];
-    let r = salvager::salvage(Limits::field(), &file[..n], &mut work, &mut out);
-    let number = r.number;
-    let length = r.length;
-    if number != 0 {
-        refuse(&mut rt.stderr(), number);
-        return;
-    }
-    if show(&mut rt.stdout(), &out, length) {
-        tell(&mut rt.stderr(), r.kept, r.named);
-    }
+    match salvager::salvage(Limits::field(), &file[..n], &mut work, &mut out) {
+        Ok(salvaged) => {
+            show(&mut rt.stdout(), &out, salvaged.length)
+                && tell(&mut rt.stderr(), salvaged.kept, salvaged.named)
+        }
+        Err(refusal) => refuse(&mut rt.stderr(), refusal.number()),
+    };
 }

@@ -12,8 +12,8 @@ use Rattle.basics.proofs.Laid.{Laid, laid_none, laid_piece, laid_whole}
 use Rattle.memory.specs.Over.{over}
 use Rattle.block.specs.Block.{block_size, payload_size, payload_of, block_refusal}
 use Rattle.block.specs.Checked.{number_of, bytes_of}
-use Rattle.block.specs.declared.Checked.{Checked}
-use Rattle.block.specs.declared.Checked.TheVariants.{Payload}
+use Rattle.std.specs.Prelude.{Result, Ok}
+use Rattle.block.specs.declared.BlockError.{BlockError}
 use Rattle.block.proofs.Accepted.{length_payload}
 use Rattle.job.specs.File.{block_at, payloads}
 use Rattle.job.proofs.Blocks.{length_block_at}
@@ -45,8 +45,8 @@ gathering_none file m n =
       counted = ap (leading file 0) (sym (sub-zero n)) ∙ sym (zero-add _);
     }
 
-module _ {file start m m' : List ℕ} {n i : ℕ} (g : Gathering file start m n i) (more : i < n) (r : Checked) (t : Taken file m i r m') where
-  pub gathering_next : block_size * n ≤ length file → payload_size * n ≤ length m → r ≡ Payload → Gathering file start m' n (i + 1)
+module _ {file start m m' : List ℕ} {n i : ℕ} (g : Gathering file start m n i) (more : i < n) (r : Result Unit BlockError) (t : Taken file m i r m') where
+  pub gathering_next : block_size * n ≤ length file → payload_size * n ≤ length m → r ≡ Ok tt → Gathering file start m' n (i + 1)
   unfolding payload_size block_size bytes_of
   gathering_next full room e =
       let b : List ℕ = block_at file i in
@@ -66,7 +66,7 @@ module _ {file start m m' : List ℕ} {n i : ℕ} (g : Gathering file start m n 
             (record { front = longer; back = g.laid.back; size = g.laid.size })
             (length_payload b (length_block_at file i (omega arith)))
             (omega arith)
-            (t.1 ∙ ap (λ (a : Checked). take (payload_size * i) m ++ over (bytes_of a b) (drop (payload_size * i) m)) e);
+            (t.1 ∙ ap (λ (a : Result Unit BlockError). take (payload_size * i) m ++ over (bytes_of a b) (drop (payload_size * i) m)) e);
         counted = g.counted ∙ ap (λ (k : ℕ). i + k) (leading_next file more good) ∙ (let q : i + suc rest ≡ i + 1 + rest = omega arith in q);
       }
 

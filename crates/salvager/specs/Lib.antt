@@ -1,2 +1,3 @@
--- What a stream's salvage gives, as the code has it.
+-- What a salvage answers, and what a stream's salvage gives, as the code has it.
+pub mod Given
 pub mod Saved

@@ -2,9 +2,9 @@
 #![tactic(auto)]
 
 ghost use Rattle.std.specs.Prelude.{◌≡◌, List, ℕ, ◌+◌, ◌*◌, ◌≤◌, ◌<◌, length, take, drop};
-ghost use Rattle.basics.specs.Choice.{pick, same};
 ghost use Rattle.memory.specs.Over.{over};
 ghost use Rattle.block.specs.Block.{block_size, payload_size};
+ghost use Rattle.job.specs.Answer.{answer_number};
 ghost use Rattle.job.specs.Limits.{most_file, most_stream, Sound};
 ghost use Rattle.job.specs.File.{payloads, file_refusal, stream_of};
 ghost use Rattle.job.specs.Job.{job_of};
@@ -13,60 +13,45 @@ ghost use Rattle.remains.specs.Kept.{leading, records_end, entries_kept, shorten
 ghost use Rattle.remains.specs.Salvage.{salvage_refusal, salvaged, kept_entries, named_entries, salvage_number, counted, salvage_length, salvage_out, salvage_work};
 ghost use Rattle.remains.specs.Claims.{Undamaged, Proper, Blocks_of};
 ghost use Rattle.remains.specs.Looked.{looked};
+ghost use Rattle.salvager.specs.Given.{given_length, given_kept, given_named};
 ghost use Rattle.salvager.specs.Saved.{Saved};
 
-use block::Checked;
-use job::{Limits, Reply, header, operations, schedule_length};
+use block::{BLOCK, PAYLOAD};
+use job::{Limits, Refusal, header, operations, schedule_length};
 use memory::{clear, put_word};
 use reader::take_block;
-use writer::{smaller, write};
+use writer::write;
 
-// What a salvage answers: its number and the file's length, as every call, the entries kept and those that the header names.
-#[derive(Clone, Copy)]
-pub struct SalvageReply {
-    pub number: u8,
+// What a salvage gives: the length of the proper file, the entries kept and those that the header names.
+#[derive(Clone, Copy, PartialEq, Eq)]
+pub struct Salvaged {
     pub length: usize,
     pub kept: u16,
     pub named: u16,
 }
 
-impl SalvageReply {
-    // "A refusal gives its number and length 0", and counts no entries.
-    fn refused(number: u8) -> SalvageReply
-        ensures { (result.number ≡ number) × (result.length ≡ 0) × (result.kept ≡ 0) × (result.named ≡ 0) }
-    {
-        SalvageReply {
-            number,
-            length: 0,
-            kept: 0,
-            named: 0,
-        }
-    }
-}
-
 // Blocks of a file, ascending, up to one that would be refused: their payloads go into the work memory, one behind the other. How many.
+#[tactic(auto, unfolding(block::specs::Block::block_size, block::specs::Block::payload_size))]
 fn gather(file: &[u8], count: usize, work: &mut [u8]) -> usize
     requires { (count < 65536) × (block_size * count ≤ length file.now) × (payload_size * count ≤ length work.old) }
     ensures count { result ≡ leading file.now 0 count }
     ensures payloads { work.new ≡ over (payloads file.now 0 result) work.old }
 {
-    let mut i: usize = 0;
-    while i < count {
-        let answer = take_block(file, i, work);
-        let Checked::Payload = answer else {
+    for i in 0..count {
+        let Ok(_) = take_block(file, i, work) else {
             return i;
         };
-        i += 1;
     }
-    i
+    count
 }
 
 // Where the schedule of a stream begins: behind its header and its records.
+#[tactic(auto, unfolding(remains::specs::Kept::records_end))]
 fn records_end(s: &[u8]) -> usize
     requires { 6 ≤ length s.now }
     ensures { result ≡ records_end s.now }
 {
-    6 + 4 * (operations(s) as usize)
+    6 + 4 * usize::from(operations(s))
 }
 
 // Shortens the schedule of a stream to the entries that are there: where it then ends.
@@ -76,73 +61,64 @@ fn shorten(s: &mut [u8]) -> usize
     ensures stream { take result s.new ≡ shortened s.old }
 {
     let start = records_end(s);
-    let kept = smaller(schedule_length(s) as usize, s.len() - start);
+    let kept = usize::from(schedule_length(s)).min(s.len() - start);
     put_word(&mut s[4..], kept as u16);
     start + kept
 }
 
-// The answer of a write of the shortened stream, with its counts.
-fn with_counts(r: Reply, kept: u16, named: u16) -> SalvageReply
-    ensures { (result.number ≡ r.number) × (result.length ≡ r.length) × (result.kept ≡ pick (same r.number 0) kept 0) × (result.named ≡ pick (same r.number 0) named 0) }
-{
-    if r.number != 0 {
-        return SalvageReply {
-            number: r.number,
-            length: r.length,
-            kept: 0,
-            named: 0,
-        };
-    }
-    SalvageReply {
-        number: r.number,
-        length: r.length,
-        kept,
-        named,
-    }
-}
-
 // The file of a stream of leading payloads, shortened in its place: the conditions in their order, then a write.
-fn save(limits: Limits, s: &mut [u8], out: &mut [u8]) -> SalvageReply
+fn save(limits: Limits, s: &mut [u8], out: &mut [u8]) -> Result<Salvaged, Refusal>
     requires { Sound limits × (most_file limits ≤ length out.old) }
     ensures { Saved limits s.old out.old out.new result }
 {
     if s.len() < 6 {
-        return SalvageReply::refused(14);
+        return Err(Refusal::NotWhole);
     }
-    let of_header = header(limits, s);
-    if of_header != 0 {
-        return SalvageReply::refused(of_header);
-    }
+    header(limits, s)?;
     let start = records_end(s);
     if s.len() < start {
-        return SalvageReply::refused(14);
+        return Err(Refusal::NotWhole);
     }
     let named = schedule_length(s);
     let end = shorten(s);
-    let r = write(limits, &s[..end], out);
-    with_counts(r, (end - start) as u16, named)
+    let length = write(limits, &s[..end], out)?;
+    Ok(Salvaged {
+        length,
+        kept: (end - start) as u16,
+        named,
+    })
 }
 
 // The same of a file: of as many leading blocks as a file may have.
-fn save_file(limits: Limits, file: &[u8], work: &mut [u8], out: &mut [u8]) -> SalvageReply
+fn save_file(
+    limits: Limits,
+    file: &[u8],
+    work: &mut [u8],
+    out: &mut [u8],
+) -> Result<Salvaged, Refusal>
     requires { Sound limits × (most_stream limits ≤ length work.old) × (most_file limits ≤ length out.old) }
     ensures saved { Saved limits (looked limits file.now) out.old out.new result }
     ensures behind { drop (most_stream limits) work.new ≡ drop (most_stream limits) work.old }
 {
-    let count = smaller(file.len() / Checked::BLOCK, limits.blocks);
+    let count = (file.len() / BLOCK).min(limits.blocks);
     let n = gather(file, count, work);
-    let end = Checked::PAYLOAD * n;
+    let end = PAYLOAD * n;
     save(limits, &mut work[..end], out)
 }
 
 // Salvages a spoiled file: document 02's number, the length of the proper file, which then stands in the output, and the entries kept and named. The work
 // memory is left clear, but for a call whose memory is too small, which touches nothing.
-pub fn salvage(limits: Limits, file: &[u8], work: &mut [u8], out: &mut [u8]) -> SalvageReply
+pub fn salvage(
+    limits: Limits,
+    file: &[u8],
+    work: &mut [u8],
+    out: &mut [u8],
+) -> Result<Salvaged, Refusal>
     requires { Sound limits }
-    ensures number { result.number ≡ salvage_number limits file.now work.old out.old }
-    ensures size { result.length ≡ salvage_length limits file.now work.old out.old }
-    ensures kept { result.kept ≡ counted limits file.now work.old out.old (kept_entries file.now) }
-    ensures named { result.named ≡ counted limits file.now work.old out.old (named_entries file.now) }
+    ensures number { answer_number result ≡ salvage_number limits file.now work.old out.old }
+    ensures size { given_length result ≡ salvage_length limits file.now work.old out.old }
+    ensures kept { given_kept result ≡ counted limits file.now work.old out.old (kept_entries file.now) }
+    ensures named { given_named result ≡ counted limits file.now work.old out.old (named_entries file.now) }
     ensures out { out.new ≡ salvage_out limits file.now work.old out.old }
     ensures work { work.new ≡ salvage_work limits work.old out.old }
     ensures undamaged { file_refusal limits file.now ≡ 0 → Undamaged limits file.now }
@@ -151,12 +127,12 @@ pub fn salvage(limits: Limits, file: &[u8], work: &mut [u8], out: &mut [u8]) -> 
 {
     let end = limits.most_stream();
     if work.len() < end {
-        return SalvageReply::refused(1);
+        return Err(Refusal::ShortMemory);
     }
     if out.len() < limits.most_file() {
-        return SalvageReply::refused(1);
+        return Err(Refusal::ShortMemory);
     }
-    let r = save_file(limits, file, work, out);
+    let answer = save_file(limits, file, work, out);
     clear(&mut work[..end]);
-    r
+    answer
 }

@@ -1,6 +1,12 @@
 -- What a write gives and leaves, refused and done. Assumes nothing.
 use mathlib.Core.Path.{◌≡◌, sym, ap, ◌∙◌}
-use mathlib.Core.Logic.{◌≢◌}
+use mathlib.Core.Bool.{false}
+use Rattle.std.specs.Prelude.{Result, Ok, Err}
+use Rattle.std.specs.Result.{IsErrAnd}
+use Rattle.basics.specs.Choice.{same}
+use Rattle.job.specs.declared.Refusal.{Refusal}
+use Rattle.job.specs.Answer.{refusal_number, answer_number, answer_length}
+use Rattle.job.proofs.Answered.{refusal_counts}
 use Prim.Native.Nat.{ℕ, ◌*◌, ◌≤◌}
 use native.Mathlib.Omega.{arith}
 use mathlib.Core.List.{List}
@@ -18,15 +24,20 @@ use Rattle.job.proofs.Accepted.{written_good}
 use Rattle.job.proofs.Padded.{fine_small, length_file_of}
 use Rattle.job.proofs.Tests.{header_there}
 
-module _ (l : Limits) (s out : List ℕ) where
-  module _ (refused : write_number l s out ≢ 0) where
-    pub refused_length : 0 ≡ write_length l s out
-    unfolding write_length
-    refused_length = sym (pick_else _ _ (unequal_same refused))
+-- what a write gives and leaves that is refused
+pub record Refused_write (l : Limits) (s out : List ℕ) (r : Result ℕ Refusal) : Type 0 where
+  pub number : answer_number r ≡ write_number l s out
+  pub size : answer_length r ≡ write_length l s out
+  pub left : out ≡ write_out l s out
 
-    pub refused_out : out ≡ write_out l s out
-    unfolding write_out
-    refused_out = sym (pick_else _ _ (unequal_same refused))
+module _ (l : Limits) (s out : List ℕ) where
+  -- at the exit of a `?`
+  pub refused_written : (r : Result ℕ Refusal) (e : Refusal) → IsErrAnd r (λ x. x ≡ e) → refusal_number e ≡ write_number l s out → Refused_write l s out r
+  unfolding write_length write_out
+  refused_written (Ok n) e h number = absurd h
+  refused_written (Err d) e h number =
+      let refused : same (write_number l s out) 0 ≡ false = unequal_same (λ z. refusal_counts e (number ∙ z)) in
+      record { number = ap refusal_number h ∙ number; size = sym (pick_else _ _ refused); left = sym (pick_else _ _ refused) }
 
   module _ (done : write_number l s out ≡ 0) where
     pub done_size : length s ≡ stream_length s

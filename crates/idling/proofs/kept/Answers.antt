@@ -8,4 +8,4 @@ use Rattle.idling.proofs.Sums.{chosen}
 use Rattle.idling.proofs.kept.Goals as goal
 
 pub returns : goal.returns
-returns c = chosen c.args.entry 8 (get_or c.args.allowed.now c.process_of-p.result.0 false) ∙ entry_chosen _ _ (c.process_of-p.ensures ∙ ap process_of c.slot_of.ensures)
+returns c = chosen c.args.entry 8 (get_or c.args.allowed.now c.process-p.result.0 false) ∙ entry_chosen _ _ (c.process-p.ensures ∙ ap process_of c.from.ensures)

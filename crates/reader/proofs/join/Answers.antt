@@ -1,41 +1,24 @@
--- `reader::join` meets its contract. The loop's invariant: the blocks passed are joined, and those that are left decide. The
--- measure is their number. Assumes nothing.
-use mathlib.Core.Path.{sym, ap, ◌∙◌}
-use Prim.Native.Nat.{◌*◌}
-use lib.ListN.{drop}
-use Rattle.block.specs.Block.{block_size, payload_size}
-use Rattle.block.proofs.Given.{refused_number}
-use Rattle.reader.proofs.Joining.{joining_none, joining_next, joining_behind, refused_decides, refused_keeps, all_accepted, all_joined}
-use native.Mathlib.Omega.{arith}
+-- `reader::join` meets its contract: the blocks passed are joined, and those that are left decide. Assumes nothing.
+use Rattle.std.proofs.Common.{◌*◌, drop, refl, ap, ◌∙◌, arith}
+use Rattle.block.specs.Block.{payload_size}
+use Rattle.block.proofs.Given.{error_counts}
+use Rattle.job.proofs.Answered.{block_passed_on}
+use Rattle.reader.proofs.Joining.{joining_next, joining_behind, refused_decides, refused_keeps, all_joined}
 use Rattle.reader.proofs.join.Goals as goal
 
-pub loop-i-init : goal.loop-i-init
-loop-i-init c = joining_none c.args.file.now c.args.work.now c.args.count
+pub returns-in_err-take_block-clause-number : goal.returns-in_err-take_block-clause-number
+returns-in_err-take_block-clause-number c = let t = c.in_err-take_block.ensures in
+    block_passed_on _ _ c.from_residual.ensures.1 ∙ refused_decides c.loop-i.invariant c.loop-i-test.true _ (t.number, t.payload) (error_counts _)
 
-pub take_block-answer-requires : goal.take_block-answer-requires
-unfolding block_size payload_size
-take_block-answer-requires c = omega arith
-
-pub shape_of-work-in_default : goal.shape_of-work-in_default
-shape_of-work-in_default c = omega (arith, c.take_block-answer.auto.work)
-
-pub returns-in_default : goal.returns-in_default
-returns-in_default c = let j = c.loop-i.invariant in
-    let t = c.take_block-answer in
-    let refused = refused_number t.result c.in_default.not-Payload in
-    let p = c.args in
-    let more = c.loop-i-test.true in record { number = c.number.ensures ∙ refused_decides j more t.result (t.ensures.number, t.ensures.payload) refused; joined = (λ z. absurd (refused (sym c.number.ensures ∙ z))); behind = ap (drop (payload_size * p.count)) (refused_keeps p.file.now _ _ c.loop-i.i t.result (t.ensures.number, t.ensures.payload) refused) ∙ joining_behind j }
+pub returns-in_err-take_block-clause-behind : goal.returns-in_err-take_block-clause-behind
+returns-in_err-take_block-clause-behind c = let t = c.in_err-take_block.ensures in
+    ap (drop (payload_size * c.args.count)) (refused_keeps c.args.file.now _ _ c.loop-i.i _ (t.number, t.payload) (error_counts _)) ∙ joining_behind c.loop-i.invariant
 
 pub loop-i-preserved : goal.loop-i-preserved
 unfolding payload_size
-loop-i-preserved c = let t = c.take_block-answer in
-    joining_next c.loop-i.invariant c.loop-i-test.true t.result (t.ensures.number, t.ensures.payload) c.requires.1 (omega arith) c.in-Payload.is
+loop-i-preserved c = let t = c.in_ok-take_block.ensures in
+    joining_next c.loop-i.invariant c.loop-i-test.true _ (t.number, t.payload) c.requires.1 (omega arith) refl
 
-pub shape_of-work : goal.shape_of-work
-shape_of-work c = c.loop-i.invariant.laid.size
-
-pub returns : goal.returns
+pub returns-clause-joined : goal.returns-clause-joined
 unfolding payload_size
-returns c = let j = c.loop-i.invariant in
-    let done = c.loop-i-test.false in
-    record { number = all_accepted j done; joined = (λ z. all_joined j done (omega arith)); behind = joining_behind j }
+returns-clause-joined c = all_joined c.loop-i.invariant c.loop-i-test.false (omega arith)

@@ -1,11 +1,6 @@
--- `reader::join` meets its contract. The loop's invariant: the blocks passed are joined, and those that are left decide. The
--- measure is their number. Assumes nothing.
-use Prim.Native.Nat.{◌-◌}
+-- `reader::join` meets its contract. The loop's invariant: the blocks passed are joined, and those that are left decide. Assumes nothing.
 use Rattle.reader.proofs.Joining.{Joining}
 use Rattle.reader.proofs.join.Given as goal
 
 abbrev pub invariant-loop-i : goal.invariant-loop-i
 invariant-loop-i l = Joining l.file l.initial.work l.work l.count l.i
-
-abbrev pub decreases-loop-i : goal.decreases-loop-i
-decreases-loop-i l = l.count - l.i

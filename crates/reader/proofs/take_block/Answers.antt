@@ -7,24 +7,11 @@ use Rattle.memory.specs.Over.{over}
 use Rattle.memory.proofs.Over.{part_over, length_part}
 use Rattle.block.specs.Block.{block_size, payload_size, block_refusal}
 use Rattle.block.specs.Checked.{bytes_of}
-use Rattle.block.specs.declared.Checked.{Checked}
 use Rattle.block.proofs.Given.{length_given}
 use Rattle.job.specs.File.{block_at}
 use Rattle.job.proofs.Blocks.{block_part, length_block_at}
 use native.Mathlib.Omega.{arith}
 use Rattle.reader.proofs.take_block.Goals as goal
-
-pub slice_bounds-give-end : goal.slice_bounds-give-end
-unfolding block_size
-slice_bounds-give-end c = omega arith
-
-pub slice_bounds-give-count-2 : goal.slice_bounds-give-count-2
-unfolding payload_size
-slice_bounds-give-count-2 c = omega arith
-
-pub slice_bounds-give-start-2 : goal.slice_bounds-give-start-2
-unfolding payload_size
-slice_bounds-give-start-2 c = omega arith
 
 pub give-requires : goal.give-requires
 unfolding block_size payload_size
@@ -34,7 +21,7 @@ give-requires c = let p = c.args in
 pub returns : goal.returns
 unfolding block_size payload_size
 returns c = let p = c.args in
-    let r : Checked = c.give.result in
+    let r = c.give.result in
     let work : List ℕ = p.work.now in
     let b : List ℕ = block_at p.file.now p.i in
     let given : length (bytes_of r b) ≤ payload_size = length_given r b (length_block_at p.file.now p.i (omega arith)) in

@@ -2,5 +2,5 @@
 use Rattle.job.proofs.Field.{given_field}
 use Rattle.replay.proofs.main.Goals as goal
 
-pub replay-r-requires : goal.replay-r-requires
-replay-r-requires c = given_field c.field.ensures
+pub replay-requires : goal.replay-requires
+replay-requires c = given_field c.field.ensures

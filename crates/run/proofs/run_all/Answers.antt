@@ -37,37 +37,37 @@ scheduled-slot-requires c = let r = c.requires.runnable in
     (its_count r, entry_read r _ (omega (arith, c.loop-k-test.true)))
 
 pub overflow_cast-i : goal.overflow_cast-i
-overflow_cast-i c = omega (arith, p_in_range c.requires.runnable c.loop-k.invariant c.loop-k-test.true c.scheduled-slot.ensures _ c.process_of-p.ensures)
+overflow_cast-i c = omega (arith, p_in_range c.requires.runnable c.loop-k.invariant c.loop-k-test.true c.scheduled-slot.ensures _ c.process-p.ensures)
 
 pub offset_bounds-run-i : goal.offset_bounds-run-i
-offset_bounds-run-i c = omega (arith, p_in_range c.requires.runnable c.loop-k.invariant c.loop-k-test.true c.scheduled-slot.ensures _ c.process_of-p.ensures)
+offset_bounds-run-i c = omega (arith, p_in_range c.requires.runnable c.loop-k.invariant c.loop-k-test.true c.scheduled-slot.ensures _ c.process-p.ensures)
 
 pub bounds-run-i : goal.bounds-run-i
-bounds-run-i c = p_in_range c.requires.runnable c.loop-k.invariant c.loop-k-test.true c.scheduled-slot.ensures _ c.process_of-p.ensures
+bounds-run-i c = p_in_range c.requires.runnable c.loop-k.invariant c.loop-k-test.true c.scheduled-slot.ensures _ c.process-p.ensures
 
 pub loop-k-preserved-then-count-o : goal.loop-k-preserved-then-count-o
-loop-k-preserved-then-count-o c = turning_rests c.requires.runnable c.loop-k.invariant c.loop-k-test.true c.scheduled-slot.ensures _ c.process_of-p.ensures c.if-count-o.true
+loop-k-preserved-then-count-o c = turning_rests c.requires.runnable c.loop-k.invariant c.loop-k-test.true c.scheduled-slot.ensures _ c.process-p.ensures c.if-count-o.true
 
 pub take_turn-turned-requires : goal.take_turn-turned-requires
-take_turn-turned-requires c = makes c.requires.runnable c.loop-k.invariant c.loop-k-test.true c.scheduled-slot.ensures _ c.process_of-p.ensures c.requires.room.0 c.if-count-o.false
+take_turn-turned-requires c = makes c.requires.runnable c.loop-k.invariant c.loop-k-test.true c.scheduled-slot.ensures _ c.process-p.ensures c.requires.room.0 c.if-count-o.false
 
 pub place_after-after-requires : goal.place_after-after-requires
 place_after-after-requires c = (c.requires.runnable, c.if-count-o.false)
 
 pub offset_bounds-run-i-then-turned : goal.offset_bounds-run-i-then-turned
-offset_bounds-run-i-then-turned c = omega (arith, p_in_range c.requires.runnable c.loop-k.invariant c.loop-k-test.true c.scheduled-slot.ensures _ c.process_of-p.ensures)
+offset_bounds-run-i-then-turned c = omega (arith, p_in_range c.requires.runnable c.loop-k.invariant c.loop-k-test.true c.scheduled-slot.ensures _ c.process-p.ensures)
 
 pub offset_bounds-run-i-in-loop-k : goal.offset_bounds-run-i-in-loop-k
-offset_bounds-run-i-in-loop-k c = omega (arith, p_in_range c.requires.runnable c.loop-k.invariant c.loop-k-test.true c.scheduled-slot.ensures _ c.process_of-p.ensures)
+offset_bounds-run-i-in-loop-k c = omega (arith, p_in_range c.requires.runnable c.loop-k.invariant c.loop-k-test.true c.scheduled-slot.ensures _ c.process-p.ensures)
 
 pub bounds-run-i-then-turned : goal.bounds-run-i-then-turned
-bounds-run-i-then-turned c = p_in_range c.requires.runnable c.loop-k.invariant c.loop-k-test.true c.scheduled-slot.ensures _ c.process_of-p.ensures
+bounds-run-i-then-turned c = p_in_range c.requires.runnable c.loop-k.invariant c.loop-k-test.true c.scheduled-slot.ensures _ c.process-p.ensures
 
 pub bounds-run-i-in-loop-k : goal.bounds-run-i-in-loop-k
-bounds-run-i-in-loop-k c = p_in_range c.requires.runnable c.loop-k.invariant c.loop-k-test.true c.scheduled-slot.ensures _ c.process_of-p.ensures
+bounds-run-i-in-loop-k c = p_in_range c.requires.runnable c.loop-k.invariant c.loop-k-test.true c.scheduled-slot.ensures _ c.process-p.ensures
 
 pub working_on-total-requires : goal.working_on-total-requires
-working_on-total-requires c = counted_in c.requires.runnable c.loop-k.invariant c.loop-k-test.true c.scheduled-slot.ensures _ c.process_of-p.ensures c.if-count-o.false
+working_on-total-requires c = counted_in c.requires.runnable c.loop-k.invariant c.loop-k-test.true c.scheduled-slot.ensures _ c.process-p.ensures c.if-count-o.false
 
 pub lost_rounds-requires : goal.lost_rounds-requires
 lost_rounds-requires c = count_there c.take_turn-turned.new.ops c.requires.room.0 (c.take_turn-turned.auto.ops ∙ c.loop-k.invariant.lengths.of_ops)
@@ -75,18 +75,18 @@ lost_rounds-requires c = count_there c.take_turn-turned.new.ops c.requires.room.
 pub returns-then-total-eq0 : goal.returns-then-total-eq0
 returns-then-total-eq0 c =
     let turned =
-    turning_over c.requires.runnable c.loop-k.invariant c.loop-k-test.true c.scheduled-slot.ensures _ c.process_of-p.ensures c.place_after-after.result c.take_turn-turned.ensures c.if-turned.true c.if-count-o.false
+    turning_over c.requires.runnable c.loop-k.invariant c.loop-k-test.true c.scheduled-slot.ensures _ c.process-p.ensures c.place_after-after.result c.take_turn-turned.ensures c.if-turned.true c.if-count-o.false
     c.place_after-after.ensures c.working_on-total.ensures (record { of_nodes = c.take_turn-turned.auto.nodes; of_ops = c.take_turn-turned.auto.ops; of_by = c.take_turn-turned.auto.by }) in
     let rest = each_rests _ _ turned.in_place.whole (sym turned.counted ∙ c.if-total-eq0.true) in
     let ran = ran_to_end c.requires.runnable turned rest in
     record { ran = ran; idle_behind = idle_behind c.requires.runnable turned rest; lost_value = c.lost_rounds.ensures ∙ ran.journal.rounds }
 
 pub loop-k-preserved-then-turned : goal.loop-k-preserved-then-turned
-loop-k-preserved-then-turned c = turning_over c.requires.runnable c.loop-k.invariant c.loop-k-test.true c.scheduled-slot.ensures _ c.process_of-p.ensures c.place_after-after.result c.take_turn-turned.ensures c.if-turned.true c.if-count-o.false
+loop-k-preserved-then-turned c = turning_over c.requires.runnable c.loop-k.invariant c.loop-k-test.true c.scheduled-slot.ensures _ c.process-p.ensures c.place_after-after.result c.take_turn-turned.ensures c.if-turned.true c.if-count-o.false
     c.place_after-after.ensures c.working_on-total.ensures (record { of_nodes = c.take_turn-turned.auto.nodes; of_ops = c.take_turn-turned.auto.ops; of_by = c.take_turn-turned.auto.by })
 
 pub loop-k-preserved : goal.loop-k-preserved
-loop-k-preserved c = turning_on c.requires.runnable c.loop-k.invariant c.loop-k-test.true c.scheduled-slot.ensures _ c.process_of-p.ensures c.advanced-after.result c.take_turn-turned.ensures c.if-turned.false c.if-count-o.false
+loop-k-preserved c = turning_on c.requires.runnable c.loop-k.invariant c.loop-k-test.true c.scheduled-slot.ensures _ c.process-p.ensures c.advanced-after.result c.take_turn-turned.ensures c.if-turned.false c.if-count-o.false
     c.advanced-after.ensures (record { of_nodes = c.take_turn-turned.auto.nodes; of_ops = c.take_turn-turned.auto.ops; of_by = c.take_turn-turned.auto.by })
 
 pub shape_of-nodes-then-total-eq0 : goal.shape_of-nodes-then-total-eq0

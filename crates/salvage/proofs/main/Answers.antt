@@ -2,5 +2,5 @@
 use Rattle.job.proofs.Field.{given_field}
 use Rattle.salvage.proofs.main.Goals as goal
 
-pub salvage-r-requires : goal.salvage-r-requires
-salvage-r-requires c = given_field c.field.ensures
+pub salvage-requires : goal.salvage-requires
+salvage-requires c = given_field c.field.ensures

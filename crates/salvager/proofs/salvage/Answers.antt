@@ -16,18 +16,18 @@ pub returns-then-work-end : goal.returns-then-work-end
 unfolding at
 returns-then-work-end c = let p = c.args in
     let bytes = c.type_inv.file in
-    small_told p.limits p.file.now p.work.now p.out.now c.refused.result (small_work_room p.limits p.work.now p.out.now (omega (arith, c.if-work-end.true, c.most_stream-end.ensures))) c.refused.ensures
+    small_told p.limits p.file.now p.work.now p.out.now (small_work_room p.limits p.work.now p.out.now (omega (arith, c.if-work-end.true, c.most_stream-end.ensures)))
     (claimed c.requires p.file.now (record { byte = λ i. (bytes i).fits }))
 
 pub returns-then-out-most_file : goal.returns-then-out-most_file
 unfolding at
 returns-then-out-most_file c = let p = c.args in
     let bytes = c.type_inv.file in
-    small_told p.limits p.file.now p.work.now p.out.now c.refused-then-out-most_file.result (small_out_room p.limits p.work.now p.out.now (omega (arith, c.if-out-most_file.true, c.most_file.ensures))) c.refused-then-out-most_file.ensures
+    small_told p.limits p.file.now p.work.now p.out.now (small_out_room p.limits p.work.now p.out.now (omega (arith, c.if-out-most_file.true, c.most_file.ensures)))
     (claimed c.requires p.file.now (record { byte = λ i. (bytes i).fits }))
 
 pub slice_bounds-clear-end-2 : goal.slice_bounds-clear-end-2
-slice_bounds-clear-end-2 c = let s = c.save_file-r in
+slice_bounds-clear-end-2 c = let s = c.save_file-answer in
     let end = c.most_stream-end.ensures in
     front_length s.new.work end (omega (arith, c.if-work-end.false, end, s.auto.work))
 
@@ -35,7 +35,7 @@ pub returns : goal.returns
 unfolding at zeros
 returns c = let p = c.args in
     let bytes = c.type_inv.file in
-    let s = c.save_file-r in
+    let s = c.save_file-answer in
     let end = c.most_stream-end.ensures in
     let room : most_stream p.limits ≤ length p.work.now = omega (arith, c.if-work-end.false, end) in
     let cleared_front = cleared s.new.work end (omega (arith, room, s.auto.work)) c.clear.new.to c.clear.ensures in

@@ -10,5 +10,5 @@ pub returns : goal.returns
 unfolding entries_kept
 returns c = let p = c.args in
     let start = c.records_end-start in
-    let count : c.smaller-kept.result ≡ entries_kept p.s.now = omega (arith, c.smaller-kept.ensures, c.schedule_length.ensures, start.ensures) in
-    record { end = omega (arith, start.ensures); stream = in_place p.s.now c.put_word.new.to (start.result + c.smaller-kept.result) c.smaller-kept.result c.requires.1 (omega (arith, start.ensures)) count c.put_word.ensures }
+    let count : c.min-kept.result ≡ entries_kept p.s.now = omega (arith, c.min-kept.ensures, c.from.ensures, c.schedule_length.ensures, start.ensures) in
+    record { end = omega (arith, start.ensures); stream = in_place p.s.now c.put_word.new.to (start.result + c.min-kept.result) c.min-kept.result c.requires.1 (omega (arith, start.ensures)) count c.put_word.ensures }

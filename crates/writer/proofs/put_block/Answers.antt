@@ -13,27 +13,11 @@ use Rattle.writer.proofs.Laying.{own_bytes}
 use native.Mathlib.Omega.{arith}
 use Rattle.writer.proofs.put_block.Goals as goal
 
-pub slice_bounds-make-count : goal.slice_bounds-make-count
-unfolding block_size
-slice_bounds-make-count c = omega arith
-
-pub slice_bounds-make-start : goal.slice_bounds-make-start
-unfolding block_size
-slice_bounds-make-start c = omega arith
-
-pub slice_bounds-make-count-2 : goal.slice_bounds-make-count-2
-unfolding payload_size
-slice_bounds-make-count-2 c = omega (arith, c.smaller-end.ensures)
-
-pub slice_bounds-make-start-2 : goal.slice_bounds-make-start-2
-unfolding payload_size
-slice_bounds-make-start-2 c = omega (arith, c.smaller-end.ensures)
-
 pub make-requires : goal.make-requires
 unfolding block_size payload_size
 make-requires c = let p = c.args in
     let out : List ℕ = p.out.now in
-    let own = take_within p.s.now (payload_size * p.i) payload_size c.smaller-end.result c.smaller-end.ensures in (
+    let own = take_within p.s.now (payload_size * p.i) payload_size c.min-end.result c.min-end.ensures in (
       omega (arith, length_part out (block_size * p.i) (length out - block_size * p.i) (omega arith)),
       omega (arith, ap length own, length-take payload_size (drop (payload_size * p.i) p.s.now)),
     )
@@ -45,6 +29,6 @@ returns c = let p = c.args in
     let size : length (block p.i (filled (own_bytes p.s.now p.i))) ≡ block_size =
     length_block p.i (filled (own_bytes p.s.now p.i)) (length_payload_filled p.s.now p.i)
     in
-    let own = take_within p.s.now (payload_size * p.i) payload_size c.smaller-end.result c.smaller-end.ensures in
+    let own = take_within p.s.now (payload_size * p.i) payload_size c.min-end.result c.min-end.ensures in
     part_over out (block p.i (filled (own_bytes p.s.now p.i))) c.make.new.to (block_size * p.i) (length out - block_size * p.i) (omega arith)
     (c.make.ensures ∙ ap (λ (x : List ℕ). over (block p.i (filled x)) (take (length out - block_size * p.i) (drop (block_size * p.i) out))) own)

@@ -1,11 +1,6 @@
--- `writer::put_blocks` meets its contract. The loop's invariant: the blocks passed are laid. The measure is the number of those that
--- are left. Assumes nothing.
-use Prim.Native.Nat.{◌-◌}
+-- `writer::put_blocks` meets its contract. The loop's invariant: the blocks passed are laid. Assumes nothing.
 use Rattle.writer.proofs.Laying.{Laying}
 use Rattle.writer.proofs.put_blocks.Given as goal
 
 abbrev pub invariant-loop-i : goal.invariant-loop-i
 invariant-loop-i l = Laying l.s l.initial.out l.out l.count l.i
-
-abbrev pub decreases-loop-i : goal.decreases-loop-i
-decreases-loop-i l = l.count - l.i
