@@ -1,12 +1,11 @@
--- Laws of `laid`: laying one thing behind another is laying both, and a store is laying one byte. Assumes nothing.
+-- Laws of `laid`: laying one thing behind another is laying both, and so is laying it before. Assumes nothing.
 use mathlib.Core.Path.{◌≡◌, refl, sym, ap, ◌∙◌}
-use Prim.Native.Nat.{ℕ, ◌+◌, ◌≤◌, ◌<◌}
+use Prim.Native.Nat.{ℕ, suc, ◌+◌, ◌≤◌}
 use native.Mathlib.Nat.{add-zero}
-use native.Mathlib.Numerals.{add-one}
 use native.Mathlib.Omega.{arith}
 use mathlib.Core.List.{List, [], ◌∷◌, ◌++◌, append_assoc, append-nil}
-use lib.ListN.{length, take, drop, set, length-append, length-drop, take-append-drop}
-use lib.Seq.{length-take-le, set_split, take_all, take_at, drop_at, drop-drop}
+use lib.ListN.{length, take, drop, get_or, set, length-append, length-drop, take-append-drop}
+use lib.Seq.{length-take-le, take-suc, set_at, take_all, take_at, drop_at, drop-drop}
 use borrow.Rule.Slice.PartMut.{put_mid}
 use Rattle.std.proofs.lemmas.Slice.{put_mid-paste}
 use Rattle.text.specs.Laid.{laid}
@@ -55,15 +54,19 @@ laid_then out at a b room =
     ∙ ap (λ (l : List ℕ). take at out ++ a ++ b ++ l) back
     ∙ ap (λ (l : List ℕ). l ++ drop (at + length (a ++ b)) out) (append_assoc (take at out) a b)
 
--- a store lays one byte
-pub set_is_laid : (out : List ℕ) (i b : ℕ) → i < length out → set out i b ≡ laid out i (b ∷ [])
+-- a store in front of what is laid
+pub set_before_laid : (out : List ℕ) (i b : ℕ) (bytes : List ℕ) → suc i + length bytes ≤ length out → set (laid out (suc i) bytes) i b ≡ laid out i (b ∷ bytes)
 unfolding laid
-set_is_laid out i b h =
-    set_split out i b h
-    ∙ ap (λ (n : ℕ). take i out ++ b ∷ drop n out) (sym (add-one i))
-    ∙ sym (append_assoc (take i out) (b ∷ []) (drop (i + 1) out))
+set_before_laid out i b bytes room =
+    let behind : List ℕ = drop (suc i + length bytes) out in
+    let front : length (take i out) ≡ i = length-take-le i out (omega arith) in
+    ap (λ (l : List ℕ). set (l ++ bytes ++ behind) i b) (take-suc out i 0 (omega arith))
+    ∙ ap (λ (l : List ℕ). set l i b) (ap (λ (l : List ℕ). l ++ behind) (append_assoc (take i out) (get_or out i 0 ∷ []) bytes) ∙ append_assoc (take i out) (get_or out i 0 ∷ bytes) behind)
+    ∙ set_at (take i out) (get_or out i 0) (bytes ++ behind) b i front
+    ∙ sym (append_assoc (take i out) (b ∷ bytes) behind)
+    ∙ ap (λ (n : ℕ). take i out ++ b ∷ bytes ++ drop n out) (let e : suc i + length bytes ≡ i + suc (length bytes) = omega arith in e)
 
--- and so does a copy of bytes
+-- a copy of bytes lays them
 pub part_is_laid : (out : List ℕ) (at : ℕ) {k : ℕ} {copied bytes : List ℕ} → copied ≡ bytes → k ≡ length bytes → put_mid at k out copied ≡ laid out at bytes
 unfolding laid
 part_is_laid out at {k} {copied} {bytes} same long =

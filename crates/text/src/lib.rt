@@ -1,8 +1,18 @@
 // Text written on a page, front to back: bytes, and numbers in decimal.
 #![tactic(auto)]
 
-ghost use Rattle.std.specs.Prelude.{◌≡◌, ◌≤◌, [], ◌∷◌, ◌++◌, length, take};
+ghost use Rattle.std.specs.Prelude.{◌≡◌, ◌≤◌, ◌++◌, length, take};
 ghost use Rattle.basics.specs.Text.{decimal};
+
+// How many digits a number has.
+fn width(n: u16) -> usize
+    ensures { result ≡ length (decimal n) }
+{
+    match n.checked_ilog10() {
+        Some(tens) => tens as usize + 1,
+        None => 1,
+    }
+}
 
 // Lent memory that is written from its front on.
 #[derive(Drop)]
@@ -40,24 +50,18 @@ impl<'a> Page<'a> {
         self.at = end;
     }
 
-    // One byte.
-    fn put_byte(&mut self, b: u8)
-        requires { HasRoom self.old (b ∷ []) }
-        ensures { Wrote self.old self.new (b ∷ []) }
-    {
-        self.memory[self.at] = b;
-        self.at += 1;
-    }
-
-    // A number in decimal: the digits of its tenth, and its last.
+    // A number in decimal, from its last digit to its first.
     fn put_decimal(&mut self, n: u16)
         requires { HasRoom self.old (decimal n) }
         ensures { Wrote self.old self.new (decimal n) }
     {
-        if 10 <= n {
-            self.put_decimal(n / 10);
+        let end = self.at + width(n);
+        let mut rest = n;
+        for i in (self.at..end).rev() {
+            self.memory[i] = 48 + (rest % 10) as u8;
+            rest /= 10;
         }
-        self.put_byte(48 + (n % 10) as u8);
+        self.at = end;
     }
 
     // The bytes of a text and a number in decimal.

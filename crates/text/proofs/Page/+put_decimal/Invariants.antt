@@ -1,5 +1,0 @@
--- `text::Page::put_decimal` calls itself with a smaller number. Assumes nothing.
-use Rattle.text.proofs.Page.+put_decimal.Given as goal
-
-abbrev pub decreases-put_decimal : goal.decreases-put_decimal
-decreases-put_decimal l = l.n
