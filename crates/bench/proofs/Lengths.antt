@@ -15,7 +15,7 @@ use Rattle.job.specs.Limits.{most_stream, Sound}
 use Rattle.job.specs.Refusals.{exact_count}
 use Rattle.job.specs.File.{stream_of, file_of, file_refusal}
 use Rattle.job.specs.Calls.{small_work, read_number, read_length, write_number, write_length}
-use Rattle.job.proofs.Accepted.{Good_stream, accepted_good, written_good}
+use Rattle.job.proofs.Accepted.{GoodStream, accepted_good, written_good}
 use Rattle.job.proofs.Padded.{fine_small, length_file_of}
 use Rattle.job.proofs.View.{stream_fits}
 use Rattle.remains.specs.Kept.{kept, shortened}
@@ -48,7 +48,7 @@ module _ {l : Limits} (sound : Sound l) where
       (λ e. omega (arith, sound.blocks_fit, stream_fits file (accepted_good l file (unless_one (small_work l work) (file_refusal l file) (same_equal e)))))
       (λ e. omega arith)
 
-  file_small : (s : List ℕ) → Good_stream l s → length (file_of s) < 2 ^ 32
+  file_small : (s : List ℕ) → GoodStream l s → length (file_of s) < 2 ^ 32
   unfolding block_size
   file_small s good =
       let size : length (file_of s) ≡ block_size * exact_count s = length_file_of s good.size in

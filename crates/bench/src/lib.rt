@@ -13,7 +13,7 @@ ghost use Rattle.theory.specs.Bounded.{Bounded};
 ghost use Rattle.theory.specs.Cut.{SameAsCut};
 ghost use Rattle.theory.specs.Short.{KeptRun};
 ghost use Rattle.remains.specs.Salvage.{salvage_refusal, salvaged, salvage_number, salvage_length, salvage_out, salvage_work};
-ghost use Rattle.remains.specs.Claims.{Undamaged, Proper, Blocks_of};
+ghost use Rattle.remains.specs.Claims.{Undamaged, Proper, BlocksOf};
 ghost use Rattle.replayer.specs.Replay.{job_in, processes_in, job_run, shut_in, replay_number, replay_length, replay_report, replay_work};
 ghost use Rattle.bench.specs.Packed.{packed};
 
@@ -75,7 +75,7 @@ pub extern "C" fn bench_salvage(file: &[u8], work: &mut [u8], out: &mut [u8]) ->
     ensures work { work.new ≡ salvage_work field work.old out.old }
     ensures undamaged { file_refusal field file.now ≡ 0 → Undamaged field file.now }
     ensures proper { salvage_refusal field file.now ≡ 0 → Proper field file.now }
-    ensures answers { salvage_refusal field file.now ≡ 0 → (whole : List ℕ) → file_refusal field whole ≡ 0 → Blocks_of whole file.now → KeptRun (job_of (stream_of whole)) (job_of (stream_of (salvaged file.now))) }
+    ensures answers { salvage_refusal field file.now ≡ 0 → (whole : List ℕ) → file_refusal field whole ≡ 0 → BlocksOf whole file.now → KeptRun (job_of (stream_of whole)) (job_of (stream_of (salvaged file.now))) }
 {
     let answer = salvager::salvage(Limits::field(), file, work, out);
     pack(answer.map(|salvaged| salvaged.length))

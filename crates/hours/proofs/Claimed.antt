@@ -9,7 +9,7 @@ use Rattle.basics.specs.Choice.{less}
 use Rattle.basics.proofs.Choice.{both, compare, pick_then, pick_else, lt_less, le_less}
 use Rattle.calendar.specs.Weekdays.{weekday, weekday_before, weekday_ago}
 use Rattle.windows.specs.Fields.{weekdays, opening, closing, booked_processes, day_minutes, day_seconds}
-use Rattle.windows.specs.Fine.{Fine_block}
+use Rattle.windows.specs.Fine.{FineBlock}
 use Rattle.hours.specs.Open.{closes, in_window, has_weekday, open_on, day_of, second_of, is_open}
 use Rattle.hours.specs.Claims.{WindowClaims, EndsOfDay, OnSomeDay, Belongs}
 
@@ -132,5 +132,5 @@ module _ (b : List ℕ) (p : ℕ) (last : closing b p ≤ day_minutes) where
         go (inl t) = record { days_ago = 0; open_from_there = none_ago ∙ t }
         go (inr f) = record { days_ago = 1; open_from_there = one_ago ∙ sym (ap (λ (x : Bool). x || open_on b p (weekday_before today) (since + day_seconds)) f) ∙ e }
 
-pub belongs : (b : List ℕ) → Fine_block b → (p k : ℕ) → p < booked_processes → Belongs b p k
+pub belongs : (b : List ℕ) → FineBlock b → (p k : ℕ) → p < booked_processes → Belongs b p k
 belongs b fine p k one = record { has_day = has_day b p (fine.closes p one) k; any_day = λ d. from_day b p (fine.closes p one) k d.days_ago d.open_from_there }

@@ -14,7 +14,7 @@ use Rattle.calendar.specs.Dates.{day_number}
 use Rattle.calendar.specs.Weekdays.{weekday, weekday_before, weekday_after}
 use Rattle.calendar.proofs.Weekdays.{weekday_yesterday}
 use Rattle.windows.specs.Fields.{year, month, day, weekdays, opening, closing, booked_processes, day_minutes, day_seconds}
-use Rattle.windows.specs.Fine.{Fine_block}
+use Rattle.windows.specs.Fine.{FineBlock}
 use Rattle.hours.specs.Open.{closes, in_window, has_weekday, open_on, since_midnight, day_of, second_of, is_open}
 use Rattle.hours.proofs.Claimed.{closes_bound}
 use Rattle.idling.specs.Minutes.{start_weekday, window_of, holds, open_at}
@@ -92,7 +92,7 @@ module _ (b : List ℕ) (p k : ℕ) where
   unfolding is_open
   open_by n s d e = λ i. open_on b p (weekday (d i)) (e i) || open_on b p (weekday_before (weekday (d i))) (e i + day_seconds)
 
-  module _ (fine : Fine_block b) (one : p < booked_processes) where
+  module _ (fine : FineBlock b) (one : p < booked_processes) where
     closing_in_days : closes (opening b p) (closing b p) ≤ 2 * day_minutes
     closing_in_days = closes_bound (opening b p) (closing b p) (fine.closes p one)
 

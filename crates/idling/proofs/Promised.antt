@@ -12,7 +12,7 @@ use Rattle.job.specs.Stream.{schedule_length}
 use Rattle.job.specs.Job.{job_of}
 use Rattle.job.specs.Ready.{Ready, Named}
 use Rattle.windows.specs.Fields.{second, opening, closing}
-use Rattle.windows.specs.Fine.{Fine_block}
+use Rattle.windows.specs.Fine.{FineBlock}
 use Rattle.hours.specs.Open.{since_midnight, is_open}
 use Rattle.windows.specs.Refused.{no_block, bad_windows}
 use Rattle.hours.specs.Windowed.{windowed}
@@ -37,11 +37,11 @@ pub block_there : (b : List ℕ) → (length b ≡ 0 → ⊥) → no_block b ≡
 unfolding no_block
 block_there b some = unequal_same some
 
-pub block_fine : (b : List ℕ) → (length b ≡ 0 → ⊥) → bad_windows b ≡ false → Fine_block b
+pub block_fine : (b : List ℕ) → (length b ≡ 0 → ⊥) → bad_windows b ≡ false → FineBlock b
 block_fine b some good = fine b (block_there b some) good
 
 -- its windows open within a day and close within two
-pub in_days : {b : List ℕ} {windows : List Window} → Fine_block b → Eight no_window (window_of b) windows → InDays windows
+pub in_days : {b : List ℕ} {windows : List Window} → FineBlock b → Eight no_window (window_of b) windows → InDays windows
 unfolding window_of
 in_days {b} {windows} f of =
     record {
@@ -50,7 +50,7 @@ in_days {b} {windows} f of =
       closes = λ p h. omega (arith, ap (λ (v : Window). v.closes) (of.each p h), closes_bound (opening b p) (closing b p) (f.closes p h));
     }
 
-module _ {b s : List ℕ} {windows : List Window} {start : ℕ} (there : no_block b ≡ false) (f : Fine_block b) (of : Eight no_window (window_of b) windows) (from : start ≡ second b) (ready : Ready s) (named : Named s) where
+module _ {b s : List ℕ} {windows : List Window} {start : ℕ} (there : no_block b ≡ false) (f : FineBlock b) (of : Eight no_window (window_of b) windows) (from : start ≡ second b) (ready : Ready s) (named : Named s) where
   -- who may act at a step by the minute is who may by the definition
   may_as_booked : (i : ℕ) → first_entry s ≤ i → i < first_entry s + schedule_length s → entries_kept (may_act windows start) s i ≡ entries_kept (booked_at b) s i
   unfolding entries_kept may_act booked_at since_midnight

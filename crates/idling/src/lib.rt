@@ -12,7 +12,7 @@ ghost use Rattle.job.specs.Stream.{schedule_length};
 ghost use Rattle.calendar.specs.Named.{weekday_number};
 ghost use Rattle.windows.specs.Fields.{day_minutes, day_seconds};
 ghost use Rattle.windows.specs.Refused.{bad_windows};
-ghost use Rattle.windows.specs.Fine.{Fine_block};
+ghost use Rattle.windows.specs.Fine.{FineBlock};
 ghost use Rattle.hours.specs.Open.{closes, has_weekday};
 ghost use Rattle.hours.specs.Windowed.{windowed};
 ghost use Rattle.idling.specs.Minutes.{start_weekday, window_of, holds, open_at, no_window, InDays};
@@ -63,7 +63,7 @@ fn closes(from: u16, to: u16) -> u16
 
 // The window of process p, where w is the weekday of the start.
 fn window_of(b: &[u8], p: Process, w: Weekday) -> Window
-    requires { Fine_block b.now × (p.0 < field.processes) × (weekday_number w ≡ start_weekday b.now) }
+    requires { FineBlock b.now × (p.0 < field.processes) × (weekday_number w ≡ start_weekday b.now) }
     ensures { result ≡ window_of b.now p.0 }
 {
     let entry = entry_of(b, p);
@@ -78,7 +78,7 @@ fn window_of(b: &[u8], p: Process, w: Weekday) -> Window
 
 // The weekday of the start.
 fn weekday_of(b: &[u8]) -> Weekday
-    requires { Fine_block b.now }
+    requires { FineBlock b.now }
     ensures { weekday_number result ≡ start_weekday b.now }
 {
     start_date(b).unwrap().weekday()
@@ -86,7 +86,7 @@ fn weekday_of(b: &[u8]) -> Weekday
 
 // All windows of a block, where w is the weekday of the start.
 fn windows_of(b: &[u8], w: Weekday) -> Bookings
-    requires { Fine_block b.now × (weekday_number w ≡ start_weekday b.now) }
+    requires { FineBlock b.now × (weekday_number w ≡ start_weekday b.now) }
     ensures { Eight no_window (window_of b.now) result }
 {
     array::from_fn(|p| window_of(b, Process(p as u8), w))

@@ -44,14 +44,14 @@ length_good l file e =
     record { least = omega arith; most = omega arith; whole = omega arith }
 
 -- a file of whole blocks that all give their payload, with a fine stream and zeros in exactly the blocks that it wants
-pub record Good_file (l : Limits) (file : List ℕ) : Type 0 where
+pub record GoodFile (l : Limits) (file : List ℕ) : Type 0 where
   pub sized : Sized l file (block_count file)
   pub blocks : blocks_refusal file 0 (block_count file) ≡ 0
   pub fine : Fine l (joined file)
   pub count : block_count file ≡ exact_count (joined file)
   pub padding : bad_padding (joined file) ≡ false
 
-stream_good : (l : Limits) (file : List ℕ) → bad_length l file ≡ false → blocks_refusal file 0 (block_count file) ≡ 0 → stream_refusal l file ≡ 0 → Good_file l file
+stream_good : (l : Limits) (file : List ℕ) → bad_length l file ≡ false → blocks_refusal file 0 (block_count file) ≡ 0 → stream_refusal l file ≡ 0 → GoodFile l file
 unfolding stream_refusal header_conditions list_conditions bad_count
 stream_good l file sized blocks e =
     let s : List ℕ = joined file in
@@ -82,14 +82,14 @@ module _ (l : Limits) (file : List ℕ) where
   unfolding file_refusal
   stream_decides e h = simp (e, equal_same h, pick_true, pick_false)
 
-pub accepted_good : (l : Limits) (file : List ℕ) → file_refusal l file ≡ 0 → Good_file l file
+pub accepted_good : (l : Limits) (file : List ℕ) → file_refusal l file ≡ 0 → GoodFile l file
 accepted_good l file z = by_length (both (bad_length l file))
   where
-    by_blocks : bad_length l file ≡ false → (same (blocks_refusal file 0 (block_count file)) 0 ≡ true) ⊎ (same (blocks_refusal file 0 (block_count file)) 0 ≡ false) → Good_file l file
+    by_blocks : bad_length l file ≡ false → (same (blocks_refusal file 0 (block_count file)) 0 ≡ true) ⊎ (same (blocks_refusal file 0 (block_count file)) 0 ≡ false) → GoodFile l file
     by_blocks e (inl h) = stream_good l file e (same_equal h) (stream_decides l file e (same_equal h) ∙ z)
     by_blocks e (inr h) = absurd (same_unequal h (blocks_decide l file e (same_unequal h) ∙ z))
 
-    by_length : (bad_length l file ≡ true) ⊎ (bad_length l file ≡ false) → Good_file l file
+    by_length : (bad_length l file ≡ true) ⊎ (bad_length l file ≡ false) → GoodFile l file
     by_length (inl e) = absurd (let q : ◌≡◌ {A = ℕ} 2 0 = length_decides l file e ∙ z in omega arith)
     by_length (inr e) = by_blocks e (both (same (blocks_refusal file 0 (block_count file)) 0))
 
@@ -101,7 +101,7 @@ sized_good l file z =
     let whole : same (length file % block_size) 0 ≡ true = equal_same (omega (arith, z.whole)) in
     simp (nonempty, most, whole)
 
-pub good_accepted : (l : Limits) (file : List ℕ) → Good_file l file → file_refusal l file ≡ 0
+pub good_accepted : (l : Limits) (file : List ℕ) → GoodFile l file → file_refusal l file ≡ 0
 unfolding stream_refusal header_conditions list_conditions bad_count
 good_accepted l file g =
     let s : List ℕ = joined file in
@@ -113,11 +113,11 @@ good_accepted l file g =
     sym (stream_decides l file (sized_good l file g.sized) g.blocks) ∙ none
 
 -- a stream that the writer takes
-pub record Good_stream (l : Limits) (s : List ℕ) : Type 0 where
+pub record GoodStream (l : Limits) (s : List ℕ) : Type 0 where
   pub size : length s ≡ stream_length s
   pub fine : Fine l s
 
-pub written_good : (l : Limits) (s out : List ℕ) → write_number l s out ≡ 0 → (most_file l ≤ length out) × Good_stream l s
+pub written_good : (l : Limits) (s out : List ℕ) → write_number l s out ≡ 0 → (most_file l ≤ length out) × GoodStream l s
 unfolding write_number header_conditions list_conditions
 written_good l s out e =
     let u = zero_unmet
@@ -133,7 +133,7 @@ written_good l s out e =
       },
     )
 
-pub good_written : (l : Limits) (s out : List ℕ) → most_file l ≤ length out → Good_stream l s → write_number l s out ≡ 0
+pub good_written : (l : Limits) (s out : List ℕ) → most_file l ≤ length out → GoodStream l s → write_number l s out ≡ 0
 unfolding write_number header_conditions list_conditions stream_length
 good_written l s out room g =
     let f = g.fine in

@@ -16,13 +16,13 @@ use Rattle.job.specs.declared.Limits.{Limits}
 use Rattle.job.specs.Limits.{Sound}
 use Rattle.job.specs.Stream.{kind, processes, operations, schedule_length, record_at, process, action, value, scheduled, stream_length}
 use Rattle.job.specs.File.{file_of, file_refusal, stream_of}
-use Rattle.job.specs.RoundTrip.{Same_job}
+use Rattle.job.specs.RoundTrip.{SameJob}
 use Rattle.job.proofs.Accepted.{accepted_good}
 use Rattle.job.proofs.Restored.{restored_file}
 use Rattle.job.proofs.View.{stream_bytes, stream_good}
 
 -- a byte of the stream stands in the header, in a record or in the schedule
-module _ (s t : List ℕ) (h : Bytes s) (k : Bytes t) (j : Same_job s t) where
+module _ (s t : List ℕ) (h : Bytes s) (k : Bytes t) (j : SameJob s t) where
   -- the same byte, counted another way
   moved : (i l : ℕ) → i ≡ l → at s i ≡ at t i → at s l ≡ at t l
   moved i l e = subst (λ (n : ℕ). at s n ≡ at t n) e
@@ -68,7 +68,7 @@ module _ (s t : List ℕ) (h : Bytes s) (k : Bytes t) (j : Same_job s t) where
   same_stream p q =
       ext_get_or 0 s t (p ∙ ap₂ (λ (n l : ℕ). 6 + 4 * n + l) j.operation_counts j.step_counts ∙ sym q) (λ i b. each_byte i (omega arith))
 
-pub one_job_one_file : {l : Limits} → Sound l → (f g : List ℕ) → Bytes f → Bytes g → file_refusal l f ≡ 0 → file_refusal l g ≡ 0 → Same_job (stream_of f) (stream_of g) → f ≡ g
+pub one_job_one_file : {l : Limits} → Sound l → (f g : List ℕ) → Bytes f → Bytes g → file_refusal l f ≡ 0 → file_refusal l g ≡ 0 → SameJob (stream_of f) (stream_of g) → f ≡ g
 one_job_one_file {l} sound f g h k p q j =
     let streams : stream_of f ≡ stream_of g =
     same_stream (stream_of f) (stream_of g) (stream_bytes f h) (stream_bytes g k) j

@@ -18,15 +18,15 @@ use Rattle.job.specs.Stream.{stream_length}
 use Rattle.job.specs.Refusals.{exact_count}
 use Rattle.job.specs.File.{zeros, block_at, block_count, joined, blocks, padded, file_of, file_refusal, stream_of}
 use Rattle.job.specs.Calls.{write_number, write_length, write_out}
-use Rattle.job.specs.RoundTrip.{Written_back}
-use Rattle.job.proofs.Accepted.{Good_file, accepted_good, good_written}
+use Rattle.job.specs.RoundTrip.{WrittenBack}
+use Rattle.job.proofs.Accepted.{GoodFile, accepted_good, good_written}
 use Rattle.job.proofs.Alike.{exact_count_alike}
 use Rattle.job.proofs.Blocks.{payloads_are, length_payload_at, length_block_at, each_accepted}
 use Rattle.job.proofs.Padded.{blocks_are}
 use Rattle.job.proofs.Pieces.{pieces_alike, pieces_of, piece_at}
 use Rattle.job.proofs.View.{length_joined, length_stream, stream_alike, stream_good, joined_is}
 
-module _ {l : Limits} (file : List ℕ) (g : Good_file l file) where
+module _ {l : Limits} (file : List ℕ) (g : GoodFile l file) where
   exact_is : exact_count (stream_of file) ≡ block_count file
   exact_is = sym (exact_count_alike (stream_alike file g)) ∙ sym g.count
 
@@ -70,7 +70,7 @@ module _ {l : Limits} (sound : Sound l) (file : List ℕ) (h : Bytes file) (acce
   restored_file = restored file (accepted_good l file accepted) sound h
 
   -- in the words of the calls
-  pub write_what_is_read : (out : List ℕ) → most_file l ≤ length out → Written_back l file out
+  pub write_what_is_read : (out : List ℕ) → most_file l ≤ length out → WrittenBack l file out
   unfolding write_length write_out
   write_what_is_read out room =
       let number : write_number l (stream_of file) out ≡ 0 = read_taken out room in

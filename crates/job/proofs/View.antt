@@ -24,7 +24,7 @@ use Rattle.job.specs.Refusals.{outside, bad_padding, bad_processes, bad_record, 
 use Rattle.job.specs.File.{zeros, block_at, block_count, payloads, joined, stream_of, zeros_behind, zero_filled}
 use Rattle.job.specs.Job.{job_of}
 use Rattle.job.specs.Ready.{Ready, Named}
-use Rattle.job.proofs.Accepted.{Fine, Sized, Good_file, Good_stream}
+use Rattle.job.proofs.Accepted.{Fine, Sized, GoodFile, GoodStream}
 use Rattle.job.proofs.Alike.{Alike, fine_alike, stream_length_alike}
 use Rattle.job.proofs.Blocks.{length_payloads}
 use Rattle.job.proofs.Conditions.{any_each, or_both}
@@ -122,7 +122,7 @@ pub length_joined : {l : Limits} (file : List ℕ) → Sized l file (block_count
 unfolding joined
 length_joined file z = length_payloads file (block_count file) z.whole
 
-module _ {l : Limits} (file : List ℕ) (g : Good_file l file) where
+module _ {l : Limits} (file : List ℕ) (g : GoodFile l file) where
   pub stream_room : stream_length (joined file) ≤ length (joined file)
   unfolding payload_size
   stream_room = omega (arith, length_joined file g.sized, g.count, exact_room (joined file))
@@ -135,7 +135,7 @@ module _ {l : Limits} (file : List ℕ) (g : Good_file l file) where
   unfolding stream_of
   length_stream = length-take-le (stream_length (joined file)) (joined file) stream_room
 
-  pub stream_good : Good_stream l (stream_of file)
+  pub stream_good : GoodStream l (stream_of file)
   stream_good = record { size = length_stream ∙ stream_length_alike stream_alike; fine = fine_alike stream_alike g.fine }
 
   -- behind the stream stand zeros

@@ -17,8 +17,8 @@ use Rattle.job.specs.Stream.{stream_length}
 use Rattle.job.specs.Refusals.{exact_count, bad_padding}
 use Rattle.job.specs.File.{zeros, block_at, block_count, payloads, joined, padded, file_of, blocks_refusal, file_refusal, stream_of}
 use Rattle.job.specs.Calls.{small_work, read_number, read_length, held, read_work, write_number}
-use Rattle.job.specs.RoundTrip.{Read_back}
-use Rattle.job.proofs.Accepted.{Fine, Good_file, Good_stream, good_accepted, written_good}
+use Rattle.job.specs.RoundTrip.{ReadBack}
+use Rattle.job.proofs.Accepted.{Fine, GoodFile, GoodStream, good_accepted, written_good}
 use Rattle.job.proofs.Alike.{Alike, fine_alike, stream_length_alike, exact_count_alike}
 use Rattle.job.proofs.Blocks.{payloads_are, all_accepted}
 use Rattle.job.proofs.Conditions.{any_none}
@@ -89,7 +89,7 @@ module _ (s : List ℕ) (size : length s ≡ stream_length s) where
         (λ j a b. ap (block_refusal j) (block_is j (omega arith)) ∙ made_accepted j (own j) (omega arith) (length_own_payload (padded s) n j whole_stream (omega arith)))
 
 module _ {l : Limits} (sound : Sound l) where
-  written_file_good : (s : List ℕ) → Good_stream l s → Good_file l (file_of s)
+  written_file_good : (s : List ℕ) → GoodStream l s → GoodFile l (file_of s)
   unfolding stream_length payload_size block_size
   written_file_good s g =
       let size : length s ≡ stream_length s = g.size in
@@ -122,7 +122,7 @@ module _ {l : Limits} (sound : Sound l) where
       ap (λ (l : List ℕ). take (stream_length l) l) (joined_is s size (exact_count s) refl) ∙ padded_stream s size
 
   -- in the words of the calls
-  pub read_what_is_written : (s out work : List ℕ) → write_number l s out ≡ 0 → most_stream l ≤ length work → Read_back l s work
+  pub read_what_is_written : (s out work : List ℕ) → write_number l s out ≡ 0 → most_stream l ≤ length work → ReadBack l s work
   unfolding read_number read_length read_work small_work
   read_what_is_written s out work z room =
       let large : less (length work) (most_stream l) ≡ false = le_less room in

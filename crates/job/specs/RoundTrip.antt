@@ -6,19 +6,19 @@ use Rattle.job.specs.File.{file_of, stream_of}
 use Rattle.job.specs.Calls.{read_number, read_length, held, read_work, write_number, write_length, write_out}
 
 -- a read of a stream's file is accepted, gives the stream's length, and leaves the stream and zeros
-pub record Read_back (l : Limits) (s work : List ℕ) : Type 0 where
+pub record ReadBack (l : Limits) (s work : List ℕ) : Type 0 where
   pub number : read_number l (file_of s) work ≡ 0
   pub size : read_length l (file_of s) work ≡ length s
   pub left : read_work l (file_of s) work ≡ held l s work
 
 -- a write of a file's stream is done, gives the file's length, and leaves that very file
-pub record Written_back (l : Limits) (file out : List ℕ) : Type 0 where
+pub record WrittenBack (l : Limits) (file out : List ℕ) : Type 0 where
   pub number : write_number l (stream_of file) out ≡ 0
   pub size : write_length l (stream_of file) out ≡ length file
   pub left : write_out l (stream_of file) out ≡ file ++ drop (length file) out
 
 -- two streams whose kind, P, N, S, operations and schedule agree field by field
-pub record Same_job (s t : List ℕ) : Type 0 where
+pub record SameJob (s t : List ℕ) : Type 0 where
   pub kinds : kind s ≡ kind t
   pub process_counts : processes s ≡ processes t
   pub operation_counts : operations s ≡ operations t

@@ -27,11 +27,11 @@ unfoldable pub good : List ℕ
 good = stream 1 1 (put 0 500 ∷ take 0 ∷ []) (0 ∷ 0 ∷ 0 ∷ [])
 
 -- a file and its number
-pub record Turned_back : Type 0 where
+pub record TurnedBack : Type 0 where
   pub file : List ℕ
   pub number : ℕ
 
-unfoldable pub refusals : List Turned_back
+unfoldable pub refusals : List TurnedBack
 refusals =
     -- "a job meeting none is accepted"
     record { file = holding 0 good; number = 0 }

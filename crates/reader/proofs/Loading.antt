@@ -20,7 +20,7 @@ use Rattle.job.proofs.Answered.{refusal_counts}
 use Rattle.job.specs.Limits.{most_stream, Sound}
 use Rattle.job.specs.Stream.{stream_length}
 use Rattle.job.specs.File.{joined, block_count, payloads, bad_length, bad_count, blocks_refusal, stream_refusal, file_refusal, stream_of}
-use Rattle.job.proofs.Accepted.{Sized, Good_file, length_good, accepted_good, stream_decides}
+use Rattle.job.proofs.Accepted.{Sized, GoodFile, length_good, accepted_good, stream_decides}
 use Rattle.job.proofs.View.{length_joined, stream_room, length_stream, stream_fits}
 use Rattle.reader.specs.Loaded.{kept, joined_refusal, Loaded}
 
@@ -65,7 +65,7 @@ stream_loaded : {l : Limits} (file start work : List ℕ) (r : ℕ) → same (fi
     → take (payload_size * block_count file) work ≡ joined file → drop (most_stream l) work ≡ drop (most_stream l) start → Loaded l file start work (Ok r)
 unfolding kept stream_of
 stream_loaded {l} file start work r t size front behind =
-    let g : Good_file l file = accepted_good l file (same_equal t) in
+    let g : GoodFile l file = accepted_good l file (same_equal t) in
     let whole : kept l file ≡ stream_of file = pick_then _ _ t in
     let n : ℕ = stream_length (joined file) in
     let room : n ≤ payload_size * block_count file = omega (arith, stream_room file g, length_joined file g.sized) in

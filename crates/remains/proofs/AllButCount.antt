@@ -10,16 +10,16 @@ use Rattle.basics.specs.Words.{word, word_bytes}
 use Rattle.basics.proofs.Words.{word_read}
 use Rattle.job.specs.Stream.{kind, processes, operations, schedule_length, record_at, process, action, value, scheduled}
 use Rattle.remains.specs.Kept.{records_end, entries_kept, shortened}
-use Rattle.remains.specs.Claims.{First_entries}
+use Rattle.remains.specs.Claims.{FirstEntries}
 
 -- a stream `t` that has the bytes of another up to its `n`-th entry, but for the count of entries, which is `n`
-pub record Same_but_count (n : ℕ) (s t : List ℕ) : Type 0 where
+pub record SameButCount (n : ℕ) (s t : List ℕ) : Type 0 where
   pub front : (i : ℕ) → i < 4 → at t i ≡ at s i
   pub behind : (i : ℕ) → 6 ≤ i → i < 6 + 4 * operations s + n → at t i ≡ at s i
   pub count : schedule_length t ≡ n
   pub no_more : n ≤ schedule_length s
 
-module _ {n : ℕ} {s t : List ℕ} (a : Same_but_count n s t) where
+module _ {n : ℕ} {s t : List ℕ} (a : SameButCount n s t) where
   pub kind_kept : kind t ≡ kind s
   unfolding kind
   kind_kept = a.front 0 (omega arith)
@@ -40,7 +40,7 @@ module _ {n : ℕ} {s t : List ℕ} (a : Same_but_count n s t) where
   unfolding scheduled
   entry_kept k low high = ap (λ (c : ℕ). at t (5 + 4 * c + k)) operations_kept ∙ a.behind (5 + 4 * operations s + k) (omega arith) (omega arith)
 
-  pub first_entries : First_entries n s t
+  pub first_entries : FirstEntries n s t
   unfolding process action record_at
   first_entries =
       record {
@@ -76,7 +76,7 @@ module _ (s : List ℕ) (whole : records_end s ≤ length s) where
       let sum : length (shortened s) ≡ length (take 4 s) + suc (suc (length (take (4 * operations s + n) (drop 6 s)))) = length-append (take 4 s) _ in
       omega (arith, length_front, length_rest)
 
-  pub same_but_count : n < 65536 → Same_but_count n s (shortened s)
+  pub same_but_count : n < 65536 → SameButCount n s (shortened s)
   unfolding shortened schedule_length at word_bytes
   same_but_count few =
       let back : List ℕ = word_bytes n ++ take (4 * operations s + n) (drop 6 s) in

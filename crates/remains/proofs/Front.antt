@@ -19,10 +19,10 @@ use Rattle.remains.specs.Kept.{records_end, entries_kept, shortened}
 use Rattle.remains.specs.Salvage.{cut_records, kept_conditions, kept_refusal}
 
 -- two streams with the same six bytes of header
-pub record Same_header (s t : List ℕ) : Type 0 where
+pub record SameHeader (s t : List ℕ) : Type 0 where
   pub byte : (i : ℕ) → i < 6 → at s i ≡ at t i
 
-module _ {s t : List ℕ} (a : Same_header s t) where
+module _ {s t : List ℕ} (a : SameHeader s t) where
   word_same : (i : ℕ) → suc i < 6 → word s i ≡ word t i
   unfolding word
   word_same i h = ap₂ (λ (x y : ℕ). 256 * x + y) (a.byte i (omega arith)) (a.byte (suc i) h)
@@ -49,7 +49,7 @@ module _ {s t : List ℕ} (a : Same_header s t) where
       ∷ (8, less l.steps (steps_same i))
       ∷ []
 
-pub header_of_front : (s : List ℕ) (k : ℕ) → 6 ≤ k → Same_header s (take k s)
+pub header_of_front : (s : List ℕ) (k : ℕ) → 6 ≤ k → SameHeader s (take k s)
 unfolding at
 header_of_front s k h = record { byte = λ i b. sym (get_or-take k s i 0 (omega arith)) }
 
@@ -73,7 +73,7 @@ front_under s k e h = go (compare e (length s))
 
 -- the first `k` bytes, with all that the header asks for
 module _ (s : List ℕ) (k : ℕ) (enough : stream_length s ≤ k) where
-  same_header : Same_header s (take k s)
+  same_header : SameHeader s (take k s)
   unfolding stream_length
   same_header = header_of_front s k (omega arith)
 

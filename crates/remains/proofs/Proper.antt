@@ -13,25 +13,25 @@ use Rattle.job.specs.Stream.{operations, stream_length}
 use Rattle.job.specs.Refusals.{outside, bad_kind, bad_processes, bad_operations, bad_schedule_length}
 use Rattle.job.specs.File.{zeros, stream_of}
 use Rattle.job.specs.Calls.{write_number}
-use Rattle.job.proofs.Accepted.{Good_stream, good_written}
+use Rattle.job.proofs.Accepted.{GoodStream, good_written}
 use Rattle.job.proofs.Written.{written_accepted, written_stream}
 use Rattle.remains.specs.Kept.{kept, records_end, entries_kept, shortened}
 use Rattle.remains.specs.Salvage.{salvage_refusal, salvaged, kept_entries}
-use Rattle.remains.specs.Claims.{First_entries, Proper}
-use Rattle.remains.proofs.AllButCount.{Same_but_count, kind_kept, processes_kept, operations_kept, first_entries, length_shortened, same_but_count}
-use Rattle.remains.proofs.Unmet.{In_range, Remains, all_unmet, few_steps}
+use Rattle.remains.specs.Claims.{FirstEntries, Proper}
+use Rattle.remains.proofs.AllButCount.{SameButCount, kind_kept, processes_kept, operations_kept, first_entries, length_shortened, same_but_count}
+use Rattle.remains.proofs.Unmet.{InRange, Remains, all_unmet, few_steps}
 
 -- a header in range, with all its records
-module _ {l : Limits} (sound : Sound l) (s : List ℕ) (h : In_range l s) (there : records_end s ≤ length s) where
+module _ {l : Limits} (sound : Sound l) (s : List ℕ) (h : InRange l s) (there : records_end s ≤ length s) where
   -- no more entries are kept than the limits allow
   pub few_kept : entries_kept s ≤ l.steps
   unfolding entries_kept
   few_kept = omega (arith, few_steps h)
 
-  pub kept_but_count : Same_but_count (entries_kept s) s (shortened s)
+  pub kept_but_count : SameButCount (entries_kept s) s (shortened s)
   kept_but_count = same_but_count s there (omega (arith, few_kept, sound.cells))
 
-  pub shortened_range : In_range l (shortened s)
+  pub shortened_range : InRange l (shortened s)
   unfolding bad_kind bad_processes bad_operations bad_schedule_length
   shortened_range =
       let a = kept_but_count in
@@ -49,7 +49,7 @@ module _ {l : Limits} (sound : Sound l) (s : List ℕ) (h : In_range l s) (there
       let n : length (shortened s) ≡ 6 + 4 * operations s + entries_kept s = length_shortened s there in
       omega (arith, a.count, operations_kept a)
 
-pub shortened_good : {l : Limits} → Sound l → (s : List ℕ) → Remains l s → Good_stream l (shortened s)
+pub shortened_good : {l : Limits} → Sound l → (s : List ℕ) → Remains l s → GoodStream l (shortened s)
 shortened_good {l} sound s r =
     let h = shortened_range sound s r.header r.records_there in
     record {
@@ -76,5 +76,5 @@ module _ {l : Limits} (sound : Sound l) (file : List ℕ) (accepted : salvage_re
   proper =
       record {
         accepted = written_accepted sound (shortened (kept file)) (zeros (most_file l)) taken;
-        its_job = subst (First_entries (entries_kept (kept file)) (kept file)) (sym stream_salvaged) (first_entries (kept_but_count sound (kept file) remains.header remains.records_there));
+        its_job = subst (FirstEntries (entries_kept (kept file)) (kept file)) (sym stream_salvaged) (first_entries (kept_but_count sound (kept file) remains.header remains.records_there));
       }

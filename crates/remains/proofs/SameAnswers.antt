@@ -21,7 +21,7 @@ use Rattle.job.specs.Stream.{operations, schedule_length, record_at, process, ac
 use Rattle.job.specs.Refusals.{exact_count}
 use Rattle.job.specs.File.{block_at, block_count, payloads, joined, file_refusal, stream_of}
 use Rattle.job.specs.Job.{recorded, job_of}
-use Rattle.job.proofs.Accepted.{Good_file, accepted_good}
+use Rattle.job.proofs.Accepted.{GoodFile, accepted_good}
 use Rattle.job.proofs.Alike.{stream_length_alike}
 use Rattle.job.proofs.Blocks.{length_block_at}
 use Rattle.job.proofs.Table.{exact_room}
@@ -30,15 +30,15 @@ use Rattle.theory.specs.Short.{CutShort, KeptRun}
 use Rattle.theory.proofs.Short.{kept_run}
 use Rattle.remains.specs.Kept.{intact, kept_blocks, kept, records_end, entries_kept, shortened}
 use Rattle.remains.specs.Salvage.{salvage_refusal, salvaged}
-use Rattle.remains.specs.Claims.{Blocks_of}
+use Rattle.remains.specs.Claims.{BlocksOf}
 use Rattle.remains.proofs.Leading.{payloads_first, payloads_same, length_full}
-use Rattle.remains.proofs.Front.{Same_header, header_of_front, operations_same, steps_same, exact_same}
+use Rattle.remains.proofs.Front.{SameHeader, header_of_front, operations_same, steps_same, exact_same}
 use Rattle.remains.proofs.Looked.{intact_full, kept_front}
-use Rattle.remains.proofs.AllButCount.{Same_but_count, kind_kept, operations_kept, first_entries}
+use Rattle.remains.proofs.AllButCount.{SameButCount, kind_kept, operations_kept, first_entries}
 use Rattle.remains.proofs.Proper.{remains, kept_but_count, stream_salvaged}
 
 -- a stream with another's bytes up to its `n`-th entry has its job, cut short
-module _ {n : ℕ} {s t : List ℕ} (a : Same_but_count n s t) where
+module _ {n : ℕ} {s t : List ℕ} (a : SameButCount n s t) where
   -- what both say of an operation in the first two bytes of its record; those of operation 0 are the count of operations
   recorded_kept : {A : Type 0} (none : A) (f : ℕ → A) (place : ℕ → ℕ) → ((o : ℕ) → (2 + 4 * o ≤ place o) × (place o < 4 + 4 * o))
       → recorded t none (λ o. f (at t (place o))) ≡ recorded s none (λ o. f (at s (place o)))
@@ -69,7 +69,7 @@ unfolding payload_size
 six_fit = omega arith
 
 -- the header stands in the first block
-header_in_first : (f : List ℕ) (m : ℕ) → block_size ≤ length f → 1 ≤ m → Same_header (payloads f 0 m) (payload_of (block_at f 0))
+header_in_first : (f : List ℕ) (m : ℕ) → block_size ≤ length f → 1 ≤ m → SameHeader (payloads f 0 m) (payload_of (block_at f 0))
 unfolding payloads at block_size
 header_in_first f zero one some = absurd (omega arith)
 header_in_first f (suc m) one some =
@@ -77,8 +77,8 @@ header_in_first f (suc m) one some =
     record { byte = λ i h. get_or-append (payload_of (block_at f 0)) (payloads f 1 m) 0 i (omega (arith, size, six_fit)) }
 
 -- the same bytes as far as the kept blocks go
-module _ {l : Limits} (sound : Sound l) (file whole : List ℕ) (accepted : salvage_refusal l file ≡ 0) (undamaged : file_refusal l whole ≡ 0) (b : Blocks_of whole file) where
-  good : Good_file l whole
+module _ {l : Limits} (sound : Sound l) (file whole : List ℕ) (accepted : salvage_refusal l file ≡ 0) (undamaged : file_refusal l whole ≡ 0) (b : BlocksOf whole file) where
+  good : GoodFile l whole
   good = accepted_good l whole undamaged
 
   abbrev n : ℕ
@@ -104,12 +104,12 @@ module _ {l : Limits} (sound : Sound l) (file whole : List ℕ) (accepted : salv
       let same : exact_count (intact file) ≡ exact_count (kept file) = exact_same (header_of_front (intact file) (payload_size * exact_count (intact file)) (omega arith)) ∙ ap exact_count (sym (kept_front file)) in
       omega arith
 
-  header_of_whole : Same_header (payloads whole 0 n) (joined whole)
+  header_of_whole : SameHeader (payloads whole 0 n) (joined whole)
   unfolding joined block_size
   header_of_whole =
       let one : block_size ≤ length whole = omega (arith, good.sized.least, good.sized.whole) in
-      let x : Same_header (payloads whole 0 n) (payload_of (block_at whole 0)) = header_in_first whole n one some_kept in
-      let y : Same_header (payloads whole 0 (block_count whole)) (payload_of (block_at whole 0)) = header_in_first whole (block_count whole) one good.sized.least in
+      let x : SameHeader (payloads whole 0 n) (payload_of (block_at whole 0)) = header_in_first whole n one some_kept in
+      let y : SameHeader (payloads whole 0 (block_count whole)) (payload_of (block_at whole 0)) = header_in_first whole (block_count whole) one good.sized.least in
       record { byte = λ i h. x.byte i h ∙ sym (y.byte i h) }
 
   within : n ≤ block_count whole
@@ -128,11 +128,11 @@ module _ {l : Limits} (sound : Sound l) (file whole : List ℕ) (accepted : salv
       ap (λ (x : List ℕ). at x i) kept_front_of_whole ∙ get_or-take (payload_size * n) (joined whole) i 0 (omega (arith, length_kept)) ∙ (stream_alike whole good).byte i within_stream
 
   -- the header of what is kept is the whole file's
-  whole_header : Same_header (kept file) (stream_of whole)
+  whole_header : SameHeader (kept file) (stream_of whole)
   unfolding stream_length
   whole_header = record { byte = λ i h. byte_of_whole i (omega (arith, (remains sound file accepted).header_there)) (omega arith) }
 
-  kept_but_count_of_whole : Same_but_count (entries_kept (kept file)) (stream_of whole) (shortened (kept file))
+  kept_but_count_of_whole : SameButCount (entries_kept (kept file)) (stream_of whole) (shortened (kept file))
   unfolding entries_kept records_end stream_length
   kept_but_count_of_whole =
       let there : records_end (kept file) ≤ length (kept file) = (remains sound file accepted).records_there in

@@ -14,7 +14,7 @@ use Rattle.job.specs.Limits.{Sound}
 use Rattle.job.specs.Stream.{operations, schedule_length, stream_length}
 use Rattle.job.specs.Refusals.{exact_count, bad_records, bad_schedule, header_conditions, list_conditions}
 use Rattle.job.specs.File.{block_count, payloads, joined, file_of, file_refusal, stream_of}
-use Rattle.job.proofs.Accepted.{Good_file, accepted_good}
+use Rattle.job.proofs.Accepted.{GoodFile, accepted_good}
 use Rattle.job.proofs.Blocks.{each_accepted}
 use Rattle.job.proofs.Conditions.{unmet_zero}
 use Rattle.job.proofs.Restored.{restored_file}
@@ -41,7 +41,7 @@ module _ (s : List ℕ) (there : stream_length s ≤ length s) where
       ∙ ap (λ (k : ℕ). take k s) (let e : 4 + (2 + n) ≡ 6 + 4 * operations s + schedule_length s = omega arith in e)
 
 module _ {l : Limits} (sound : Sound l) (file : List ℕ) (h : Bytes file) (accepted : file_refusal l file ≡ 0) where
-  good : Good_file l file
+  good : GoodFile l file
   good = accepted_good l file accepted
 
   all_intact : intact_blocks file ≡ block_count file

@@ -18,7 +18,7 @@ use Rattle.remains.specs.Kept.{records_end, shortened}
 use Rattle.remains.specs.Salvage.{cut_records, kept_conditions, kept_refusal}
 
 -- a header in range
-pub record In_range (l : Limits) (s : List ℕ) : Type 0 where
+pub record InRange (l : Limits) (s : List ℕ) : Type 0 where
   pub kinds : bad_kind s ≡ false
   pub process_count : bad_processes l s ≡ false
   pub operation_count : bad_operations l s ≡ false
@@ -27,12 +27,12 @@ pub record In_range (l : Limits) (s : List ℕ) : Type 0 where
 -- the header and the records are there, in range, and so are the entries that are kept
 pub record Remains (l : Limits) (s : List ℕ) : Type 0 where
   pub header_there : 6 ≤ length s
-  pub header : In_range l s
+  pub header : InRange l s
   pub records_there : records_end s ≤ length s
   pub records : bad_records (shortened s) ≡ false
   pub schedule : bad_schedule (shortened s) ≡ false
 
-pub header_unmet : (l : Limits) (s : List ℕ) → first_met (header_conditions l s) ≡ 0 → In_range l s
+pub header_unmet : (l : Limits) (s : List ℕ) → first_met (header_conditions l s) ≡ 0 → InRange l s
 unfolding header_conditions
 header_unmet l s e =
     let u = zero_unmet (header_conditions l s) (header_numbered l s) e in
@@ -52,7 +52,7 @@ all_unmet l s e =
     }
 
 -- a header in range asks for no more blocks than a file may have
-module _ {l : Limits} {s : List ℕ} (h : In_range l s) where
+module _ {l : Limits} {s : List ℕ} (h : InRange l s) where
   pub few_operations : operations s ≤ l.operations
   unfolding bad_operations outside
   few_operations = less_le (or_both (less (operations s) 1) (less l.operations (operations s)) h.operation_count).1

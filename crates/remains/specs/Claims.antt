@@ -14,7 +14,7 @@ pub record Undamaged (l : Limits) (file : List ℕ) : Type 0 where
   pub all_entries : kept_entries file ≡ named_entries file
 
 -- a stream with the header and the records of another, whose schedule is the first `n` entries of the other's
-pub record First_entries (n : ℕ) (s t : List ℕ) : Type 0 where
+pub record FirstEntries (n : ℕ) (s t : List ℕ) : Type 0 where
   pub kinds : kind t ≡ kind s
   pub process_counts : processes t ≡ processes s
   pub operation_counts : operations t ≡ operations s
@@ -28,8 +28,8 @@ pub record First_entries (n : ℕ) (s t : List ℕ) : Type 0 where
 -- "writes a proper file": it is accepted, and its job is that of the header and the records, "the schedule [shortened] to the entries kept"
 pub record Proper (l : Limits) (file : List ℕ) : Type 0 where
   pub accepted : file_refusal l (salvaged file) ≡ 0
-  pub its_job : First_entries (kept_entries file) (kept file) (stream_of (salvaged file))
+  pub its_job : FirstEntries (kept_entries file) (kept file) (stream_of (salvaged file))
 
 -- "the kept blocks are those of the undamaged file"
-pub record Blocks_of (whole file : List ℕ) : Type 0 where
+pub record BlocksOf (whole file : List ℕ) : Type 0 where
   pub each : (i : ℕ) → i < kept_blocks file → block_at file i ≡ block_at whole i

@@ -19,7 +19,7 @@ use Rattle.job.specs.Job.{Job, job_of}
 use Rattle.job.specs.Idle.{idle_at}
 use Rattle.job.specs.Calls.{small_work, held, read_number, read_length, read_work}
 use Rattle.job.specs.Ready.{Ready, Named}
-use Rattle.job.proofs.Accepted.{Good_file, accepted_good}
+use Rattle.job.proofs.Accepted.{GoodFile, accepted_good}
 use Rattle.job.proofs.View.{filled_long, filled_ready, filled_named, filled_job}
 use Rattle.windows.specs.Refused.{bad_windows}
 use Rattle.hours.specs.Windowed.{windowed}
@@ -124,7 +124,7 @@ module _ (l : Limits) (file windows work out : List ℕ) where
       unfolding read_number
       file_accepted = sym (pick_else _ _ not_small) ∙ accepted
 
-      good : Good_file l file
+      good : GoodFile l file
       good = accepted_good l file file_accepted
 
       -- then its windows decide

@@ -12,7 +12,7 @@ use Rattle.job.specs.Stream.{operations, schedule_length, process, record_at, va
 use Rattle.job.specs.File.{stream_of, file_refusal}
 use Rattle.job.specs.Job.{job_of}
 use Rattle.job.specs.Idle.{idle_at}
-use Rattle.job.proofs.Accepted.{Good_file, accepted_good}
+use Rattle.job.proofs.Accepted.{GoodFile, accepted_good}
 use Rattle.job.proofs.Padded.{fine_counts}
 use Rattle.job.proofs.Recorded.{owner_said, field_said}
 use Rattle.job.proofs.View.{stream_good, stream_bytes}
@@ -35,7 +35,7 @@ fits s windows b few short =
 pub report_short : {l : Limits} → Sound l → (file windows : List ℕ) → file_refusal l file ≡ 0 → Bytes file → length (report (job_run file windows)) ≤ l.report
 unfolding job_run windowed idle_at job_in job_of
 report_short {l} sound file windows accepted b =
-    let g : Good_file l file = accepted_good l file accepted in
+    let g : GoodFile l file = accepted_good l file accepted in
     let counts = fine_counts (stream_good file g).fine in
     let few : operations (stream_of file) ≤ l.operations = counts.0 in
     let short : schedule_length (stream_of file) ≤ l.steps = counts.1 in

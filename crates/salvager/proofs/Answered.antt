@@ -26,7 +26,7 @@ use Rattle.job.specs.Calls.{small_work, held, write_number, write_length, write_
 use Rattle.remains.specs.Kept.{entries_kept, shortened}
 use Rattle.remains.specs.Salvage.{kept_refusal, salvage_refusal, salvaged, kept_entries, named_entries, small_room, salvage_number, counted, salvage_length, salvage_out, salvage_work}
 use Rattle.remains.specs.Looked.{looked}
-use Rattle.remains.specs.Claims.{Undamaged, Proper, Blocks_of}
+use Rattle.remains.specs.Claims.{Undamaged, Proper, BlocksOf}
 use Rattle.theory.specs.Short.{KeptRun}
 use Rattle.remains.proofs.Undamaged.{undamaged}
 use Rattle.remains.proofs.Proper.{proper}
@@ -91,7 +91,7 @@ abbrev pub Claimed : Limits → List ℕ → Type 0
 Claimed l file =
     (file_refusal l file ≡ 0 → Undamaged l file)
     × ((salvage_refusal l file ≡ 0 → Proper l file)
-    × (salvage_refusal l file ≡ 0 → (whole : List ℕ) → file_refusal l whole ≡ 0 → Blocks_of whole file → KeptRun (job_of (stream_of whole)) (job_of (stream_of (salvaged file)))))
+    × (salvage_refusal l file ≡ 0 → (whole : List ℕ) → file_refusal l whole ≡ 0 → BlocksOf whole file → KeptRun (job_of (stream_of whole)) (job_of (stream_of (salvaged file)))))
 
 -- all that a call is told: the number, the counts, both memories, and what is true of every salvage
 abbrev pub Told : Limits → List ℕ → List ℕ → List ℕ → List ℕ → List ℕ → Result Salvaged Refusal → Type 0
@@ -104,7 +104,7 @@ Told l file work₀ out₀ work' out' r = record {
   work : work' ≡ salvage_work l work₀ out₀;
   undamaged : file_refusal l file ≡ 0 → Undamaged l file;
   proper : salvage_refusal l file ≡ 0 → Proper l file;
-  answers : salvage_refusal l file ≡ 0 → (whole : List ℕ) → file_refusal l whole ≡ 0 → Blocks_of whole file → KeptRun (job_of (stream_of whole)) (job_of (stream_of (salvaged file)));
+  answers : salvage_refusal l file ≡ 0 → (whole : List ℕ) → file_refusal l whole ≡ 0 → BlocksOf whole file → KeptRun (job_of (stream_of whole)) (job_of (stream_of (salvaged file)));
 }
 
 pub claimed : {l : Limits} → Sound l → (file : List ℕ) → Bytes file → Claimed l file

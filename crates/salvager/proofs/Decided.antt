@@ -16,12 +16,12 @@ use Rattle.job.proofs.Conditions.{met_later, met_back, unmet_zero}
 use Rattle.job.proofs.Table.{header_numbered}
 use Rattle.remains.specs.Kept.{records_end, shortened}
 use Rattle.remains.specs.Salvage.{kept_refusal}
-use Rattle.remains.proofs.Unmet.{In_range, header_unmet}
+use Rattle.remains.proofs.Unmet.{InRange, header_unmet}
 use Rattle.remains.proofs.Conditions.{lists_decide}
 use Rattle.remains.proofs.Proper.{shortened_range, shortened_size}
 
 module _ (l : Limits) (s : List ℕ) {h : ℕ} (e : h ≡ first_met (header_conditions l s)) (fine : h ≡ 0) where
-  pub in_range : In_range l s
+  pub in_range : InRange l s
   in_range = header_unmet l s (sym e ∙ fine)
 
   pub write_decides : Sound l → 6 ≤ length s → records_end s ≤ length s → (out : List ℕ) → most_file l ≤ length out → write_number l (shortened s) out ≡ kept_refusal l s

@@ -11,7 +11,7 @@ ghost use Rattle.job.specs.Job.{job_of};
 ghost use Rattle.theory.specs.Short.{KeptRun};
 ghost use Rattle.remains.specs.Kept.{leading, records_end, entries_kept, shortened};
 ghost use Rattle.remains.specs.Salvage.{salvage_refusal, salvaged, kept_entries, named_entries, salvage_number, counted, salvage_length, salvage_out, salvage_work};
-ghost use Rattle.remains.specs.Claims.{Undamaged, Proper, Blocks_of};
+ghost use Rattle.remains.specs.Claims.{Undamaged, Proper, BlocksOf};
 ghost use Rattle.remains.specs.Looked.{looked};
 ghost use Rattle.salvager.specs.Given.{given_length, given_kept, given_named};
 ghost use Rattle.salvager.specs.Saved.{Saved};
@@ -124,7 +124,7 @@ pub fn salvage(
     ensures work { work.new ≡ salvage_work limits work.old out.old }
     ensures undamaged { file_refusal limits file.now ≡ 0 → Undamaged limits file.now }
     ensures proper { salvage_refusal limits file.now ≡ 0 → Proper limits file.now }
-    ensures answers { salvage_refusal limits file.now ≡ 0 → (whole : List ℕ) → file_refusal limits whole ≡ 0 → Blocks_of whole file.now → KeptRun (job_of (stream_of whole)) (job_of (stream_of (salvaged file.now))) }
+    ensures answers { salvage_refusal limits file.now ≡ 0 → (whole : List ℕ) → file_refusal limits whole ≡ 0 → BlocksOf whole file.now → KeptRun (job_of (stream_of whole)) (job_of (stream_of (salvaged file.now))) }
 {
     let end = limits.most_stream();
     if work.len() < end {

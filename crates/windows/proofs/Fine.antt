@@ -14,7 +14,7 @@ use Rattle.job.proofs.Conditions.{or_both, any_each}
 use Rattle.calendar.specs.Dates.{is_date}
 use Rattle.windows.specs.Fields.{year, month, day, second, weekdays, opening, closing, booked_processes, day_minutes, day_seconds}
 use Rattle.windows.specs.Refused.{bad_start, bad_window, bad_entries, bad_rest, bad_block, no_block, bad_windows}
-use Rattle.windows.specs.Fine.{Fine_block}
+use Rattle.windows.specs.Fine.{FineBlock}
 
 inside : (low high n : ℕ) → outside low high n ≡ false → (low ≤ n) × (n ≤ high)
 unfolding outside
@@ -23,12 +23,12 @@ inside low high n e =
     (less_le tests.0, less_le tests.1)
 
 -- the start of a block
-record Fine_start (b : List ℕ) : Type 0 where
+record FineStart (b : List ℕ) : Type 0 where
   years : (2000 ≤ year b) × (year b ≤ 2099)
   date : is_date (year b) (month b) (day b) ≡ true
   seconds : second b < day_seconds
 
-start_fine : (b : List ℕ) → bad_start b ≡ false → Fine_start b
+start_fine : (b : List ℕ) → bad_start b ≡ false → FineStart b
 unfolding bad_start
 start_fine b e =
     let there : Bool = is_date (year b) (month b) (day b) in
@@ -41,12 +41,12 @@ start_fine b e =
     }
 
 -- the entry of a process
-record Fine_window (b : List ℕ) (p : ℕ) : Type 0 where
+record FineWindow (b : List ℕ) (p : ℕ) : Type 0 where
   bits : weekdays b p < 128
   opens : opening b p ≤ day_minutes
   closes : closing b p ≤ day_minutes
 
-window_fine : (b : List ℕ) (p : ℕ) → bad_window b p ≡ false → Fine_window b p
+window_fine : (b : List ℕ) (p : ℕ) → bad_window b p ≡ false → FineWindow b p
 unfolding bad_window
 window_fine b p e =
     let last = or_both (not (less (weekdays b p) 128) || less day_minutes (opening b p)) (less day_minutes (closing b p)) e in
@@ -57,11 +57,11 @@ window_fine b p e =
       closes = less_le last.1;
     }
 
-entry_fine : (b : List ℕ) → bad_entries b ≡ false → (p : ℕ) → p < booked_processes → Fine_window b p
+entry_fine : (b : List ℕ) → bad_entries b ≡ false → (p : ℕ) → p < booked_processes → FineWindow b p
 unfolding bad_entries
 entry_fine b e p h = window_fine b p (any_each (bad_window b) 0 booked_processes e p (omega arith) (omega arith))
 
-block_fine : (b : List ℕ) → length b ≡ block_size → bad_block b ≡ false → Fine_block b
+block_fine : (b : List ℕ) → length b ≡ block_size → bad_block b ≡ false → FineBlock b
 unfolding bad_block
 block_fine b size e =
     let rest = or_both (not (same (block_refusal 0 b) 0) || bad_start b || bad_entries b) (bad_rest b) e in
@@ -78,7 +78,7 @@ block_fine b size e =
       closes = λ p h. (entry_fine b entries.1 p h).closes;
     }
 
-pub fine : (b : List ℕ) → no_block b ≡ false → bad_windows b ≡ false → Fine_block b
+pub fine : (b : List ℕ) → no_block b ≡ false → bad_windows b ≡ false → FineBlock b
 unfolding bad_windows
 fine b some e =
     let there : not (same (length b) block_size) || bad_block b ≡ false =

@@ -4,7 +4,7 @@ use Rattle.block.specs.Block.{block_size}
 use Rattle.calendar.specs.Dates.{is_date}
 use Rattle.windows.specs.Fields.{year, month, day, second, weekdays, opening, closing, booked_processes, day_minutes, day_seconds}
 
-pub record Fine_block (b : List ℕ) : Type 0 where
+pub record FineBlock (b : List ℕ) : Type 0 where
   pub size : length b ≡ block_size
   -- "year (2 bytes, 2000 to 2099)"
   pub first_year : 2000 ≤ year b

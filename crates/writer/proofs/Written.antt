@@ -24,14 +24,14 @@ use Rattle.job.proofs.Accepted.{written_good}
 use Rattle.job.proofs.Padded.{fine_small, length_file_of}
 
 -- what a write gives and leaves that is refused
-pub record Refused_write (l : Limits) (s out : List ℕ) (r : Result ℕ Refusal) : Type 0 where
+pub record RefusedWrite (l : Limits) (s out : List ℕ) (r : Result ℕ Refusal) : Type 0 where
   pub number : answer_number r ≡ write_number l s out
   pub size : answer_length r ≡ write_length l s out
   pub left : out ≡ write_out l s out
 
 module _ (l : Limits) (s out : List ℕ) where
   -- at the exit of a `?`
-  pub refused_written : (r : Result ℕ Refusal) (e : Refusal) → IsErrAnd r (λ x. x ≡ e) → refusal_number e ≡ write_number l s out → Refused_write l s out r
+  pub refused_written : (r : Result ℕ Refusal) (e : Refusal) → IsErrAnd r (λ x. x ≡ e) → refusal_number e ≡ write_number l s out → RefusedWrite l s out r
   unfolding write_length write_out
   refused_written (Ok n) e h number = absurd h
   refused_written (Err d) e h number =

@@ -185,10 +185,10 @@ never_begun j (suc k) o past = local_other j k o (λ e. absurd (omega (arith, ac
 
 -- a hand that a step does not touch
 hand_kept : (j : Job) (k p o : ℕ) → InHand j k p o → (state_after j (suc k)).places p ≡ (state_after j k).places p → ((q : ℕ) → 1 ≤ q → (q ≤ j.count → j.owner q ≡ p) → (note j (suc k)).by ≢ q) → InHand j (suc k) p o
-hand_kept j k p o h Place_kept apart =
+hand_kept j k p o h PlaceKept apart =
     let same_local : local j (suc k) o ≡ local j k o = local_other j k o (apart o h.from_one h.owned) in
     record {
-      place_is = Place_kept ∙ h.place_is ∙ ap (place_of o) (sym same_local);
+      place_is = PlaceKept ∙ h.place_is ∙ ap (place_of o) (sym same_local);
       from_one = h.from_one;
       owned = h.owned;
       going = ap (λ l. ended l.row) same_local ∙ h.going;
@@ -269,7 +269,7 @@ hand_at_first j p =
 module _ (j : Job) (k p : ℕ) (own : (o : ℕ) × InHand j k p o) where
   -- a step that nobody makes and that leaves its place
   hand_left : (state_after j (suc k)).places p ≡ (state_after j k).places p → (note j (suc k)).by ≡ 0 → (o : ℕ) × InHand j (suc k) p o
-  hand_left Place_kept nobody = (own.0, hand_kept j k p own.0 own.1 Place_kept (λ q low mine c. absurd (let z : 0 ≡ q = sym nobody ∙ c in omega arith)))
+  hand_left PlaceKept nobody = (own.0, hand_kept j k p own.0 own.1 PlaceKept (λ q low mine c. absurd (let z : 0 ≡ q = sym nobody ∙ c in omega arith)))
 
   hand_idles : Idling j k → (o : ℕ) × InHand j (suc k) p o
   unfolding idle
