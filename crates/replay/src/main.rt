@@ -19,16 +19,6 @@ const WINDOWS: usize = BLOCK + 1;
 // The longest name of a file.
 const NAME: usize = 4095;
 
-// A number of a memory's bytes: at most all.
-fn up_to(n: usize, of: &[u8]) -> usize
-    ensures { IsPrefixLen result of.now }
-{
-    if n < of.len() {
-        return n;
-    }
-    of.len()
-}
-
 // How many bytes a file has, which then stand in front: at most as many as the memory has, and as many where it cannot be read, so that it
 // is refused as a longer one is.
 fn load<R: Read>(from: &mut R, to: &mut [u8]) -> usize
@@ -38,7 +28,7 @@ fn load<R: Read>(from: &mut R, to: &mut [u8]) -> usize
         return to.len();
     };
     let more = read_full(from, &mut to[front..]);
-    up_to(front + more, to)
+    (front + more).min(to.len())
 }
 
 // The same of the file that the argument names; without one it is empty. A name that is no text cannot be opened.
