@@ -3,19 +3,11 @@ use mathlib.Core.Path.{◌≡◌, ap, ◌∙◌}
 use Prim.Native.Nat.{ℕ, suc, ◌+◌, ◌*◌, ◌/◌, ◌%◌, ◌≤◌, ◌<◌}
 use native.Mathlib.Omega.{arith}
 use mathlib.Core.List.{List, [], ◌∷◌, ◌++◌}
-use lib.ListN.{length, take, drop, get_or, set}
+use lib.ListN.{length, take, drop, get_or}
 use lib.Seq.{drop-cons, get_or_at, get_or-append-add}
 use Rattle.basics.specs.Bytes.{Bytes}
 use Rattle.basics.specs.Maps.{at}
 use Rattle.basics.specs.Words.{word, word_bytes}
-
--- the two bytes stored at the front of a list
-pub word_stored : (l : List ℕ) (n : ℕ) → n < 65536 → 2 ≤ length l → set (set l 0 (n / 256)) 1 (n % 256) ≡ word_bytes n ++ drop (length (word_bytes n)) l
-unfolding word_bytes
-word_stored [] n fits room = absurd (omega arith)
-word_stored (x ∷ []) n fits room = absurd (omega arith)
-word_stored (x ∷ y ∷ l) n fits room =
-    ap (λ (k : ℕ). k ∷ n % 256 ∷ l) (let e : n / 256 ≡ n / 256 % 256 = omega arith in e)
 
 -- two bytes are those of the number that they hold
 pub word_bytes_at : (l : List ℕ) (i : ℕ) → Bytes l → i + 2 ≤ length l → take 2 (drop i l) ≡ word_bytes (word l i)

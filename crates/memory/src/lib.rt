@@ -6,20 +6,23 @@ ghost use Rattle.basics.specs.Words.{word, word_bytes};
 ghost use Rattle.memory.specs.Over.{over};
 
 // The number in the two bytes at an index.
+#[tactic(auto, unfolding(basics::specs::Words::word, basics::specs::Maps::at))]
 pub fn word_at(s: &[u8], i: usize) -> u16
     requires { i + 1 < length s.now }
     ensures { result ≡ word s.now i }
 {
-    256 * (s[i] as u16) + s[i + 1] as u16
+    u16::from_be_bytes([s[i], s[i + 1]])
 }
 
 // A number's two bytes, at the front.
+#[tactic(auto, unfolding(basics::specs::Words::word_bytes))]
 pub fn put_word(to: &mut [u8], n: u16)
     requires { 2 ≤ length to.old }
     ensures { to.new ≡ over (word_bytes n) to.old }
 {
-    to[0] = (n / 256) as u8;
-    to[1] = (n % 256) as u8;
+    let [high, low] = n.to_be_bytes();
+    to[0] = high;
+    to[1] = low;
 }
 
 // All bytes of one memory, at the front of another. A loop, since `copy_from_slice` calls memmove: `include/bench.h` says that memset is all that the

@@ -31,6 +31,7 @@ pub struct Salvaged {
 }
 
 // Blocks of a file, ascending, up to one that would be refused: their payloads go into the work memory, one behind the other. How many.
+// The reader's `join` loops alike, but gives why and not how many; an answer of both is no plainer than two loops of three lines.
 #[tactic(auto, unfolding(block::specs::Block::block_size, block::specs::Block::payload_size))]
 fn gather(file: &[u8], count: usize, work: &mut [u8]) -> usize
     requires { (count < 65536) × (block_size * count ≤ length file.now) × (payload_size * count ≤ length work.old) }
