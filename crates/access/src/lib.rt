@@ -43,6 +43,24 @@ pub struct Scalars {
     pub object: Object,
 }
 
+impl Scalars {
+    // The same, field by field: compiled code then keeps each in a register of its own. Copied whole, some are packed into one.
+    fn apart(self) -> Self
+        ensures { result ≡ self }
+    {
+        Scalars {
+            h: self.h,
+            t: self.t,
+            n: self.n,
+            object: Object {
+                head: self.object.head,
+                tail: self.object.tail,
+                top: self.object.top,
+            },
+        }
+    }
+}
+
 // What an access left in them, how it came out, and what it was for the record.
 #[derive(Clone, Copy, Debug, PartialEq, Eq)]
 pub struct Accessed {
@@ -56,7 +74,7 @@ fn answer(left: Scalars, outcome: Outcome, event: Event) -> Accessed
     ensures { result ≡ answered left outcome event }
 {
     Accessed {
-        left,
+        left: left.apart(),
         outcome,
         event,
     }

@@ -7,20 +7,11 @@ ghost use Rattle.place.specs.Place.{onward};
 use machine::{Place, Row};
 
 // "a step changes the place of one process and nothing of the other seven": that place is lent, and keeps its operation.
-fn advance(p: &mut Place, row: Row, h: u16, t: u16, n: u16)
+pub fn advance(p: &mut Place, row: Row, h: u16, t: u16, n: u16)
     ensures { p.new ≡ onward p.old row h t n }
 {
     p.row = row;
     p.h = h;
     p.t = t;
     p.n = n;
-}
-
-// The same by value.
-pub fn advanced(p: Place, row: Row, h: u16, t: u16, n: u16) -> Place
-    ensures { result ≡ onward p row h t n }
-{
-    let mut q = p;
-    advance(&mut q, row, h, t, n);
-    q
 }

@@ -20,7 +20,7 @@ use hands::Source;
 use job::{Heading, Limits, Operation, Process, Slot, Step, Stream};
 use journal::{enter, enter_drop, enter_end, is_waiting, lost_rounds};
 use machine::{Finish, Object, Place};
-use place::advanced;
+use place::advance;
 use step::{Stepped, step};
 use table::has_ended;
 
@@ -184,7 +184,9 @@ pub fn run_all(
         }
         let turned = take_turn(slot, place, k, object, nodes, ops, by);
         let s = turned.left;
-        object = s.left.object;
+        // field by field, as in crates/access: a copy of the whole would be packed
+        let Object { head, tail, top } = s.left.object;
+        object = Object { head, tail, top };
         if turned.over {
             let after = source.place_after(p, o);
             run.places[i] = after;
@@ -195,7 +197,7 @@ pub fn run_all(
             }
             continue;
         }
-        run.places[i] = advanced(place, s.row, s.left.h, s.left.t, s.left.n);
+        advance(&mut run.places[i], s.row, s.left.h, s.left.t, s.left.n);
     }
     Finish {
         object,

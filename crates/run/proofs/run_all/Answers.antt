@@ -78,8 +78,8 @@ loop-made-preserved-then-turned c = (
 
 pub loop-made-preserved : goal.loop-made-preserved
 loop-made-preserved c = (
-  turning_on c.requires.runnable c.loop-made.invariant.0 c.loop-made-test.true c.scheduled-slot.ensures _ c.process-p.ensures c.advanced.result c.take_turn-turned.ensures c.if-turned.false c.if-job-o.false
-      c.advanced.ensures (record { of_nodes = c.take_turn-turned.auto.nodes; of_ops = c.take_turn-turned.auto.ops; of_by = c.take_turn-turned.auto.by }),
+  turning_on c.requires.runnable c.loop-made.invariant.0 c.loop-made-test.true c.scheduled-slot.ensures _ c.process-p.ensures _ c.take_turn-turned.ensures c.if-turned.false c.if-job-o.false
+      c.advance.ensures (record { of_nodes = c.take_turn-turned.auto.nodes; of_ops = c.take_turn-turned.auto.ops; of_by = c.take_turn-turned.auto.by }),
   c.loop-made.invariant.1,
 )
 

@@ -1,4 +1,5 @@
--- `step::perform` meets its contract: the arm of an access knows the access, does it and notes it. Assumes nothing.
+-- `step::perform` meets its contract: the arm of an access knows the access, does it and notes it. Two answers an arm, a line each: with the
+-- lemmas named on the function instead, the check does not find which access the arm knows. Assumes nothing.
 use mathlib.Core.Path.{refl}
 use Rattle.step.proofs.Arms.{countable_noted, room, done_noted_counted, done_and_noted}
 use Rattle.step.proofs.perform.Goals as goal
