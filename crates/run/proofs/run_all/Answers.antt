@@ -116,7 +116,7 @@ left c =
       | then-loop-made-test+else-job-o+then-turned+then-total-eq0 w ↦
           rw (w.reach-is, w.object-is, w.nodes-is, w.ops-is, w.by-is)
           (none_left c.requires.runnable
-          (turning_over c.requires.runnable c.loop-made.invariant.0 w.loop-made-test.true w.scheduled-slot.ensures _ w.process_of-p.ensures w.place_after-after.result w.take_turn-turned.ensures w.if-turned.true w.if-job-o.false
+          (turning_over c.requires.runnable c.loop-made.invariant.0 w.loop-made-test.true w.scheduled-slot.ensures _ w.process-p.ensures w.place_after-after.result w.take_turn-turned.ensures w.if-turned.true w.if-job-o.false
           w.place_after-after.ensures w.working_on-total.ensures (record { of_nodes = w.take_turn-turned.auto.nodes; of_ops = w.take_turn-turned.auto.ops; of_by = w.take_turn-turned.auto.by }))
           w.if-total-eq0.true)
     ]
