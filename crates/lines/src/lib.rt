@@ -173,6 +173,7 @@ pub fn operation_line(page: &mut Page, stream: &Stream, ops: &[u16], o: Operatio
 }
 
 // A step, and an operation or an item behind a label.
+#[inline(always)]
 fn put_at(page: &mut Page, s: Step, label: &[u8], o: Operation)
     requires { HasRoom page.old (at_text s.0 label.now o.0) }
     ensures { Wrote page.old page.new (at_text s.0 label.now o.0) }
@@ -182,6 +183,7 @@ fn put_at(page: &mut Page, s: Step, label: &[u8], o: Operation)
 }
 
 // The line of a step that has one member: a put, or a take that found nothing.
+#[inline(always)]
 fn single_line(page: &mut Page, s: Step, label: &[u8], o: Operation)
     requires { HasRoom page.old (at_text s.0 label.now o.0 ++ text "\n") }
     ensures { Wrote page.old page.new (at_text s.0 label.now o.0 ++ text "\n") }

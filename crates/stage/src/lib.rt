@@ -34,6 +34,7 @@ fn centimetres(mm: i16) -> i16
 }
 
 // The bytes of a text and a whole number in decimal: a `-` leads a negative one.
+#[inline(always)]
 fn put_signed(page: &mut Page, label: &[u8], n: i16)
     requires { HasRoom page.old (label.now ++ signed_decimal n) }
     ensures { Wrote page.old page.new (label.now ++ signed_decimal n) }
@@ -48,6 +49,7 @@ fn put_signed(page: &mut Page, label: &[u8], n: i16)
 }
 
 // The bytes of a text and a stage in whole centimetres.
+#[inline(always)]
 pub fn put_stage(page: &mut Page, label: &[u8], field: u16)
     requires { HasRoom page.old (label.now ++ stage_text field) }
     ensures { Wrote page.old page.new (label.now ++ stage_text field) }

@@ -4,14 +4,23 @@
 ghost use Rattle.std.specs.Prelude.{◌≡◌, ◌≤◌, ◌++◌, length, take};
 ghost use Rattle.basics.specs.Text.{decimal};
 
-// How many digits a number has.
+// How many digits a number has. The kit's `checked_ilog10` was tried and is slower: by a test that is guessed, the text behind the number need not wait.
 fn width(n: u16) -> usize
     ensures { result ≡ length (decimal n) }
 {
-    match n.checked_ilog10() {
-        Some(tens) => tens as usize + 1,
-        None => 1,
+    if n < 10 {
+        return 1;
     }
+    if n < 100 {
+        return 2;
+    }
+    if n < 1000 {
+        return 3;
+    }
+    if n < 10000 {
+        return 4;
+    }
+    5
 }
 
 // Lent memory that is written from its front on.
@@ -40,7 +49,8 @@ impl<'a> Page<'a> {
         &self.memory[..self.at]
     }
 
-    // The bytes of a text.
+    // The bytes of a text. Inlined, so that a label is stored by its own length: a call of its own takes longer.
+    #[inline(always)]
     pub fn put_bytes(&mut self, s: &[u8])
         requires { HasRoom self.old s.now }
         ensures { Wrote self.old self.new s.now }
@@ -65,6 +75,7 @@ impl<'a> Page<'a> {
     }
 
     // The bytes of a text and a number in decimal.
+    #[inline(always)]
     pub fn put_labelled(&mut self, label: &[u8], n: u16)
         requires { HasRoom self.old (label.now ++ decimal n) }
         ensures { Wrote self.old self.new (label.now ++ decimal n) }

@@ -1,11 +1,20 @@
--- `text::width` meets its contract: a number from a power of ten up to the next has one digit more than the power says. Assumes nothing.
+-- `text::width` meets its contract: a number of two digits or more has one digit more than its tenth. Assumes nothing.
 use native.Mathlib.Omega.{arith}
 use mathlib.Core.Path.{sym}
 use Rattle.text.proofs.Digits.{one_digit, digits_by_power}
 use Rattle.text.proofs.width.Goals as goal
 
-pub returns-in-Some : goal.returns-in-Some
-returns-in-Some c = omega (arith, digits_by_power c.in-Some.tens c.args.n c.in-Some.ensures.power_le (omega (arith, c.in-Some.ensures.next_power_gt)))
+pub returns-then-n-lt10 : goal.returns-then-n-lt10
+returns-then-n-lt10 c = sym (one_digit c.args.n c.if-n-lt10.true)
 
-pub returns-in-None : goal.returns-in-None
-returns-in-None c = sym (one_digit c.args.n (omega (arith, c.in-None.ensures.none)))
+pub returns-then-n-lt100 : goal.returns-then-n-lt100
+returns-then-n-lt100 c = digits_by_power 1 c.args.n (omega arith) (omega arith)
+
+pub returns-then-n-lt1000 : goal.returns-then-n-lt1000
+returns-then-n-lt1000 c = digits_by_power 2 c.args.n (omega arith) (omega arith)
+
+pub returns-then-n-lt10000 : goal.returns-then-n-lt10000
+returns-then-n-lt10000 c = digits_by_power 3 c.args.n (omega arith) (omega arith)
+
+pub returns : goal.returns
+returns c = digits_by_power 4 c.args.n (omega arith) (omega arith)
