@@ -15,9 +15,6 @@ use Rattle.theory.proofs.Nobody.{Free}
 use Rattle.run.specs.Promise.{Runnable, run_places}
 
 module _ {stream : List ℕ} {job : Heading} (r : Runnable stream job) where
-  pub its_object : job.object ≡ (job_of stream).object
-  its_object = ap (λ (h : Heading). h.object) r.told
-
   pub its_count : job.count ≡ (job_of stream).count
   its_count = ap (λ (h : Heading). h.count) r.told
 
