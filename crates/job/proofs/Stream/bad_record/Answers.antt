@@ -1,8 +1,8 @@
--- `job::bad_record` meets its contract where the record is of a put. Assumes nothing.
+-- `job::Stream::bad_record` meets its contract where the record is of a put. Assumes nothing.
 use Rattle.std.proofs.Common.{Some, sym, ap, ◌∙◌}
 use Rattle.job.proofs.Recorded.{owner_said}
 use Rattle.job.proofs.Tests.{put_passes}
-use Rattle.job.proofs.bad_record.Goals as goal
+use Rattle.job.proofs.Stream.bad_record.Goals as goal
 
 pub returns-in-Some-Put : goal.returns-in-Some-Put
 returns-in-Some-Put c =
