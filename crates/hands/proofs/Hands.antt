@@ -5,7 +5,6 @@ use native.Mathlib.Omega.{arith}
 use mathlib.Core.Bool.{Bool, true, false}
 use Rattle.basics.specs.Choice.{same}
 use Rattle.basics.proofs.Choice.{pick_then, pick_else}
-use Rattle.job.specs.declared.Heading.{Heading}
 use Rattle.job.specs.Job.{Job, job_of}
 use Rattle.machine.specs.Run.{seek, operation_after}
 use Rattle.hands.specs.declared.Source.{Source}
@@ -52,4 +51,4 @@ module _ (j : Job) (p : ℕ) where
 
 -- a source's heading says how many operations its job has
 pub counts : (s : Source) → s.heading.count ≡ (job_of s.stream.now).count
-counts s = ap (λ (h : Heading). h.count) s.told
+counts s = s.counted

@@ -3,7 +3,7 @@
 
 ghost use Rattle.std.specs.Prelude.{◌≡◌, ◌+◌, ◌<◌, ◌≤◌, length};
 ghost use Rattle.job.specs.Stream.{«record_at»};
-ghost use Rattle.job.specs.Job.{«job_of», heading_of};
+ghost use Rattle.job.specs.Job.{«job_of»};
 ghost use Rattle.machine.specs.Run.{before, «operation_after»};
 
 use job::{Heading, Operation, Process, Stream};
@@ -15,9 +15,9 @@ use table::first_row;
 pub struct Source<'a> {
     pub stream: &'a Stream<'a>,
     pub heading: Heading,
-    ghost told: { heading ≡ heading_of (job_of stream.now) },
+    ghost counted: { heading.count ≡ (job_of stream.now).count },
+    ghost kind: { heading.object ≡ (job_of stream.now).object },
     ghost whole: { record_at heading.count + 3 < length stream.now },
-    ghost few: { heading.count < 65535 },
 }
 
 impl<'a> Source<'a> {
@@ -46,7 +46,7 @@ impl<'a> Source<'a> {
 
     // The operation of a process that comes after operation o.
     pub fn next_operation(self, p: Process, o: Operation) -> Operation
-        requires { o.0 ≤ self.heading.count }
+        requires { (self.heading.count < 65535) × (o.0 ≤ self.heading.count) }
         ensures { result.0 ≡ operation_after (job_of self.entry.stream.now) p.0 o.0 }
     {
         let count = self.heading.count;
@@ -60,7 +60,7 @@ impl<'a> Source<'a> {
 
     // The place of process p before the operation that comes after operation o.
     pub fn place_after(self, p: Process, o: Operation) -> Place
-        requires { o.0 ≤ self.heading.count }
+        requires { (self.heading.count < 65535) × (o.0 ≤ self.heading.count) }
         ensures { result ≡ before (job_of self.entry.stream.now) (operation_after (job_of self.entry.stream.now) p.0 o.0) }
     {
         self.begin(self.next_operation(p, o))

@@ -221,7 +221,7 @@ impl Column for BoundColumn {
 }
 
 // For each item, where its takers are: from both ends at once.
-fn bound_takers(bounds: &mut [u16], ops: &[u16], count: u16)
+pub fn bound_takers(bounds: &mut [u16], ops: &[u16], count: u16)
     requires { Unbounded ops.now bounds.old count }
     ensures { Bounds ops.now bounds.new count }
 {
@@ -248,12 +248,11 @@ impl<'a> Takers<'a> {
     ghost use Rattle.lines.specs.Lines.{member};
     ghost use Rattle.lines.specs.Walks.{IsOf, takers_in, take_line_of, line_of};
 
-    // Finds where they are.
-    pub fn new(ops: &'a [u16], bounds: &'a mut [u16], count: u16) -> Takers<'a>
-        requires { Unbounded ops.now bounds.old count }
+    // With bounds that were found.
+    pub fn new(ops: &'a [u16], bounds: &'a [u16], count: u16) -> Takers<'a>
+        requires { Bounds ops.now bounds.now count }
         ensures { IsOf ops.now count result }
     {
-        bound_takers(bounds, ops, count);
         Takers { ops, bounds, count }
     }
 

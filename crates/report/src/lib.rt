@@ -18,7 +18,7 @@ ghost use Rattle.report.specs.Found.{here, found, found_lines, Within};
 ghost use Rattle.report.specs.Reported.{Leaves, Reported};
 
 use job::{Heading, Kind, Limits, Operation, Step, Stream};
-use lines::{Found, Left, Takers, object_line, operation_line};
+use lines::{Found, Left, Takers, bound_takers, object_line, operation_line};
 use machine::Finish;
 use rows::{NodeColumn, OpColumn, cell};
 use text::Page;
@@ -88,7 +88,8 @@ fn record_lines(page: &mut Page, ops: &[u16], by: &[u16], count: u16, reach: Ste
     ensures { Wrote page.old page.new (record_lines (found_lines (cells ops.now) (Maps.at by.now) count reach.0)) }
 {
     let mut bounds = [0u16; CELLS];
-    let takers = Takers::new(ops, &mut bounds, count);
+    bound_takers(&mut bounds, ops, count);
+    let takers = Takers::new(ops, &bounds, count);
     step_lines(page, &takers, ops, by, reach);
 }
 

@@ -4,7 +4,8 @@
 
 ghost use Rattle.std.specs.Prelude.{◌≡◌, ℕ, ◌<◌};
 ghost use Rattle.std.proofs.Common.{rules};
-ghost use Rattle.rows.specs.Rows.{HasRows, cells_of, stored_in};
+ghost use Rattle.basics.specs.Maps.{at, upd};
+ghost use Rattle.rows.specs.Rows.{place, HasRows, cells_of, stored_in};
 ghost use Rattle.rows.specs.Operations as Operations;
 ghost use Rattle.rows.specs.Nodes as Nodes;
 
@@ -101,7 +102,8 @@ pub fn cell<C: Column>(rows: &[u16], i: u16, column: C) -> u16
 // Stores a value in a column of row `i`.
 pub fn store<C: Column>(rows: &mut [u16], i: u16, column: C, value: u16)
     requires { HasRows C.WIDTH i rows.old }
-    ensures { cells_of C.number C.WIDTH rows.new ≡ stored_in C.number column i value (cells_of C.number C.WIDTH rows.old) }
+    ensures list { at rows.new ≡ upd (at rows.old) (place C.WIDTH i (C.number column)) value }
+    ensures columns { cells_of C.number C.WIDTH rows.new ≡ stored_in C.number column i value (cells_of C.number C.WIDTH rows.old) }
 {
     rows[C::WIDTH * (i as usize) + column.index()] = value;
 }

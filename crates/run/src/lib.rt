@@ -36,7 +36,7 @@ impl Run {
 
 // Every process before its first operation, and nobody past the last one.
 fn line_up(source: Source) -> Run
-    requires { Ready source.stream.now }
+    requires { Runnable source.stream.now source.heading }
     ensures { InPlace (job_of source.entry.stream.now) 0 result.places }
 {
     let count = source.heading.count;

@@ -14,7 +14,7 @@ use Rattle.access.proofs.clear_flag.Goals as goal
 pub returns-then-cell-eq-NONE : goal.returns-then-cell-eq-NONE
 unfolding access have_set reached_from reached_by memory_of event_of with_mark yes_if pick
 returns-then-cell-eq-NONE c = λ own.
-    let stored = mark_stored _ _ _ _ c.store.ensures in
+    let stored = mark_stored _ _ _ _ c.store.ensures.columns in
     let none = cell_is (uppers _) _ c.cell.ensures c.if-cell-eq-NONE.true in
     rw c.answer.ensures (record { reaches = rw (none, stored.0, stored.1, stored.2); tells = refl })
 

@@ -32,5 +32,5 @@ returns c = λ own.
     let lower = c.cell-lower.ensures in
     let holds = cell_is (uppers _) _ c.cell.ensures c.if-cell-c.false in
     let live = cell_is (marks _) _ c.cell-2.ensures c.if-cell-ne-LIVE.false in
-    let stored = upper_stored _ _ _ _ c.store.ensures in
+    let stored = upper_stored _ _ _ _ c.store.ensures.columns in
     rw c.answer-2.ensures (record { reaches = rw (sym lower, holds, live, stored.0, stored.1, stored.2); tells = refl })

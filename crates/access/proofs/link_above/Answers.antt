@@ -26,7 +26,7 @@ pub returns : goal.returns
 unfolding access have_set reached_from reached_by memory_of event_of with_next with_upper yes_if pick
 returns c = let none = cell_is (uppers _) _ c.cell.ensures c.if-cell-ne-NONE.false in
     let live = cell_is (marks _) _ c.cell-2.ensures c.if-cell-ne-LIVE.false in
-    let above = upper_stored _ _ _ _ c.store.ensures in
-    let below = next_stored _ _ _ _ c.store-2.ensures in
+    let above = upper_stored _ _ _ _ c.store.ensures.columns in
+    let below = next_stored _ _ _ _ c.store-2.ensures.columns in
     rw c.answer-2.ensures
     (record { reaches = rw (none, live, below.0, below.1, below.2, above.0, above.1, above.2); tells = refl })

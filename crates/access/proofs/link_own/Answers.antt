@@ -12,7 +12,7 @@ use Rattle.access.proofs.link_own.Goals as goal
 
 pub returns-then-cell-eq-NONE : goal.returns-then-cell-eq-NONE
 unfolding access have_set reached_from reached_by memory_of event_of with_next yes_if pick
-returns-then-cell-eq-NONE c = let stored = next_stored _ _ _ _ c.store.ensures in
+returns-then-cell-eq-NONE c = let stored = next_stored _ _ _ _ c.store.ensures.columns in
     let none = equal_same (sym c.cell.ensures ∙ c.if-cell-eq-NONE.true) in
     rw c.answer.ensures (record { reaches = rw (none, stored.0, stored.1, stored.2); tells = refl })
 

@@ -12,7 +12,7 @@ use Rattle.access.proofs.push.Goals as goal
 
 pub returns-then-c : goal.returns-then-c
 unfolding access have_set reached_from reached_by memory_of event_of with_next with_top set_from_to yes_if pick
-returns-then-c c = let stored = next_stored _ _ _ _ c.store.ensures in
+returns-then-c c = let stored = next_stored _ _ _ _ c.store.ensures.columns in
     rw c.answer.ensures
     (record { reaches = rw (equal_same c.if-c.true, stored.0, stored.1, stored.2); tells = refl })
 

@@ -11,5 +11,5 @@ use Rattle.access.proofs.raise_mark.Goals as goal
 pub returns : goal.returns
 unfolding access have_set reached_from reached_by memory_of event_of with_mark
 returns c = λ own.
-    let stored = mark_stored _ _ _ _ c.store.ensures in
+    let stored = mark_stored _ _ _ _ c.store.ensures.columns in
     rw c.answer.ensures (record { reaches = rw (stored.0, stored.1, stored.2); tells = refl })

@@ -10,4 +10,4 @@ use Rattle.journal.proofs.count_lost.Goals as goal
 
 pub returns : goal.returns
 unfolding counted pick
-returns c = c.store.ensures ∙ ap (λ n. stored First 0 n (cells c.args.ops.now)) (add-one _ ∙ ap suc c.cell-lost.ensures)
+returns c = c.store.ensures.columns ∙ ap (λ n. stored First 0 n (cells c.args.ops.now)) (add-one _ ∙ ap suc c.cell-lost.ensures)

@@ -6,7 +6,7 @@ use Rattle.journal.proofs.enter_end.Goals as goal
 
 pub returns-then-ends : goal.returns-then-ends
 unfolding closed pick
-returns-then-ends c = rw c.if-ends.true c.store.ensures
+returns-then-ends c = rw c.if-ends.true c.store.ensures.columns
 
 pub returns-else-ends : goal.returns-else-ends
 unfolding closed pick

@@ -19,11 +19,11 @@ returns-in-Quiet c = rw c.in-Quiet.is
 
 pub returns-in-Round : goal.returns-in-Round
 unfolding noted
-returns-in-Round c = rw c.in-Round.is c.store.ensures
+returns-in-Round c = rw c.in-Round.is c.store.ensures.columns
 
 pub returns-in-Linked : goal.returns-in-Linked
 unfolding noted
-returns-in-Linked c = rw c.in-Linked.is c.store-in-Linked.ensures
+returns-in-Linked c = rw c.in-Linked.is c.store-in-Linked.ensures.columns
 
 pub returns-in-Moved : goal.returns-in-Moved
 unfolding noted
@@ -31,7 +31,7 @@ returns-in-Moved c = rw c.in-Moved.is c.note_move.ensures
 
 pub returns-in-Late : goal.returns-in-Late
 unfolding noted
-returns-in-Late c = rw c.in-Late.is c.store-in-Late.ensures
+returns-in-Late c = rw c.in-Late.is c.store-in-Late.ensures.columns
 
 pub returns-in-Raised : goal.returns-in-Raised
 unfolding noted

@@ -9,4 +9,4 @@ use Rattle.journal.proofs.note_move.Goals as goal
 
 pub returns : goal.returns
 unfolding stored_in pick same
-returns c = c.store_first.ensures ∙ ap (λ (m : Cells). stored Stands c.args.n (earlier (m Stands c.args.n) c.args.k.0) m) c.store.ensures
+returns c = c.store_first.ensures ∙ ap (λ (m : Cells). stored Stands c.args.n (earlier (m Stands c.args.n) c.args.k.0) m) c.store.ensures.columns

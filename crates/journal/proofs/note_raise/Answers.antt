@@ -9,4 +9,4 @@ use Rattle.journal.proofs.note_raise.Goals as goal
 
 pub returns : goal.returns
 unfolding stored_in pick same
-returns c = c.store_later.ensures ∙ ap (λ (m : Cells). stored Stands c.args.t (max (m Stands c.args.t) c.args.round.0) m) c.store.ensures
+returns c = c.store_later.ensures ∙ ap (λ (m : Cells). stored Stands c.args.t (max (m Stands c.args.t) c.args.round.0) m) c.store.ensures.columns

@@ -5,4 +5,4 @@ use Rattle.std.proofs.Common.{rules}
 use Rattle.lines.proofs.bound_takers.Goals as goal
 
 pub loop-o-preserved : goal.loop-o-preserved
-loop-o-preserved c = bounded_more _ _ _ _ c.loop-o.invariant (search rules) c.cell-last.ensures c.store.ensures c.cell-first.ensures c.store-in-loop-o.ensures (omega arith)
+loop-o-preserved c = bounded_more _ _ _ _ c.loop-o.invariant (search rules) c.cell-last.ensures c.store.ensures.columns c.cell-first.ensures c.store-in-loop-o.ensures.columns (omega arith)

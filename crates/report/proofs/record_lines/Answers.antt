@@ -7,5 +7,5 @@ use Rattle.lines.proofs.Bounds.{zeros_small}
 use Rattle.std.proofs.Common.{rules}
 use Rattle.report.proofs.record_lines.Goals as goal
 
-pub new-takers-requires : goal.new-takers-requires
-new-takers-requires c = record { has_ops = search rules; has_bounds = omega arith; items = c.requires.1.items; small = zeros_small (place bound_width field.operations bound_width) _ }
+pub bound_takers-requires : goal.bound_takers-requires
+bound_takers-requires c = record { has_ops = search rules; has_bounds = omega arith; items = c.requires.1.items; small = zeros_small (place bound_width field.operations bound_width) _ }

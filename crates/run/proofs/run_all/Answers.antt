@@ -2,11 +2,12 @@
 -- steps; the measure is how many steps are left. Where no process has operations left, the steps that are left change nothing. Assumes
 -- nothing.
 use native.Mathlib.Omega.{arith}
-use mathlib.Core.Path.{◌≡◌, refl, ◌∙◌}
+use mathlib.Core.Path.{◌≡◌, refl, ap, ◌∙◌}
 use Prim.Native.Nat.{ℕ}
 use mathlib.Core.List.{List}
 use lib.ListN.{length}
 use Rattle.rows.specs.Operations.{HasOps}
+use Rattle.job.specs.declared.Heading.{Heading}
 use Rattle.job.specs.Job.{job_of}
 use Rattle.run.specs.Promise.{Room}
 use Rattle.run.proofs.Bounds.{its_count, few, short, record_read, entry_read}
@@ -96,14 +97,14 @@ pub loop-made-smaller : goal.loop-made-smaller
 loop-made-smaller c = omega (arith, c.loop-made-test.true)
 
 pub place_after-after-requires : goal.place_after-after-requires
-place_after-after-requires c = c.if-job-o.false
+place_after-after-requires c = (omega (arith, few c.requires.runnable), c.if-job-o.false)
 
 pub line_up-run-requires : goal.line_up-run-requires
-line_up-run-requires c = c.requires.runnable.ready
+line_up-run-requires c = c.requires.runnable
 
 pub invariant_of-source : goal.invariant_of-source
 invariant_of-source c = let r = c.requires.runnable in
-    record { told = r.told; whole = record_read r _ (omega arith); few = omega (arith, few r) }
+    record { counted = its_count r; kind = ap (λ (h : Heading). h.object) r.told; whole = record_read r _ (omega arith) }
 
 pub lost_rounds-requires : goal.lost_rounds-requires
 lost_rounds-requires c = count_there _ c.requires.room.0 (c.loop-made-test.auto.ops ∙ c.loop-made.auto.ops)

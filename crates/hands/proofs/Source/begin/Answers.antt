@@ -7,5 +7,5 @@ use Rattle.hands.proofs.Source.begin.Goals as goal
 pub returns : goal.returns
 unfolding before
 returns c =
-    let row = c.first_row.ensures ∙ (λ i. first_row (c.args.self.told i).object (c.puts.ensures i)) in
+    let row = c.first_row.ensures ∙ (λ i. first_row (c.args.self.kind i) (c.puts.ensures i)) in
     λ i. record { operation = c.args.o; row = row i; h = 0; t = 0; n = 0 }
