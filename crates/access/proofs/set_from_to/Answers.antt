@@ -7,8 +7,10 @@ use Rattle.access.proofs.set_from_to.Goals.{then-held-b, else-held-b}
 
 pub returns : goal.returns
 unfolding set_from_to pick
-returns c =
-    (elim c.if-held-b.branch [
-      then-held-b w ↦ rw (w.a-is, equal_same w.if-held-b.true)
+returns c = (
+  elim c.if-held-b.branch [
+    | then-held-b w ↦ rw (w.a-is, equal_same w.if-held-b.true)
     | else-held-b w ↦ rw (w.a-is, unequal_same w.if-held-b.false)
-    ], c.yes_if_same.ensures)
+  ],
+  c.yes_if_same.ensures,
+)
