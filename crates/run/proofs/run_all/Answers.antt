@@ -110,8 +110,9 @@ pub lost_rounds-requires : goal.lost_rounds-requires
 lost_rounds-requires c = count_there _ c.requires.room.0 (c.loop-made-test.auto.ops ∙ c.loop-made.auto.ops)
 
 -- what the loop leaves, after the last step, or where no process has operations left
-left : (c : goal.After-lost_rounds) → Over c.args.stream.now c.args.job c.loop-made-test.reach.0 c.loop-made-test.object c.loop-made-test.nodes c.loop-made-test.ops c.loop-made-test.by
-left c =
+pub returns : goal.returns
+returns c =
+    let over : Over c.args.stream.now c.args.job c.loop-made-test.reach.0 c.loop-made-test.object c.loop-made-test.nodes c.loop-made-test.ops c.loop-made-test.by =
     elim c.loop-made-test.branch [
       | else-loop-made-test w ↦ rw (w.reach-is, w.object-is, w.nodes-is, w.ops-is, w.by-is) (all_made c.loop-made.invariant.0 w.loop-made-test.false c.loop-made.invariant.1)
       | then-loop-made-test+else-job-o+then-turned+then-total-eq0 w ↦
@@ -120,8 +121,5 @@ left c =
           (turning_over c.requires.runnable c.loop-made.invariant.0 w.loop-made-test.true w.scheduled-slot.ensures _ w.process-p.ensures w.place_after-after.result w.take_turn-turned.ensures w.if-turned.true w.if-job-o.false
           w.place_after-after.ensures w.working_on-total.ensures (record { of_nodes = w.take_turn-turned.auto.nodes; of_ops = w.take_turn-turned.auto.ops; of_by = w.take_turn-turned.auto.by }))
           w.if-total-eq0.true)
-    ]
-
-pub returns : goal.returns
-returns c = let over = left c in
+    ] in
     record { ran = over.ran; idle_behind = over.behind; lost_value = c.lost_rounds.ensures ∙ over.ran.journal.rounds }
