@@ -10,6 +10,7 @@ ghost use Rattle.console.specs.Said.{refused_line, Shown};
 use std::io::{Read, Write};
 
 // Reads until a memory is full, the input ends or a read fails: how many bytes, which then stand in front.
+// A `while`, since a read gives as many bytes as it likes; std's `read_exact` says little where the input ends before.
 pub fn read_full<R: Read>(from: &mut R, to: &mut [u8]) -> usize
     ensures count { IsPrefixLen result to.new }
     ensures bytes { Consumes (R.remaining from.old) (R.remaining from.new) (take result to.new) }
@@ -27,7 +28,7 @@ pub fn read_full<R: Read>(from: &mut R, to: &mut [u8]) -> usize
     done
 }
 
-// `refused`, a space, a number and a newline, and whether they were written whole.
+// `refused`, a space, a number and a newline, and whether they were written whole: the programs ask no more of a failed write, so it is no error of theirs.
 pub fn refuse<W: Write>(to: &mut W, number: u8) -> bool
     ensures { OnTrue result (Appends (W.contents to.old) (W.contents to.new) (refused_line number)) }
 {

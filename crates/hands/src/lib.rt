@@ -1,4 +1,5 @@
-// The operation in a process's hand: where it begins, and which comes after it. Operations count from 1; N + 1 is none.
+// The operation in a process's hand: where it begins, and which comes after it. Operations count from 1; N + 1 is none. It is a number and
+// no `None`, since the definition `operation_after` counts so, and the theory's proofs with it.
 #![tactic(auto)]
 
 ghost use Rattle.std.specs.Prelude.{◌≡◌, ◌+◌, ◌<◌, ◌≤◌, length};

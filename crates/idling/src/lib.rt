@@ -25,7 +25,7 @@ use job::{Limits, Process, Slot, Stream, schedule_at};
 use std::array;
 use windows::{DAY_MINUTES, entry_of, second, start_date};
 
-// The process of an idle step: one that no job has.
+// The process of an idle step: one that no job has. An entry of the schedule is a byte, so it is a number.
 const NOBODY: u8 = Limits::PROCESSES as u8;
 
 // The window of a process, as the day of the start sees it: is it booked on the day before, on that day, on the day after, and at which minutes does it

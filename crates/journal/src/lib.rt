@@ -1,4 +1,5 @@
-// The journal of a run: what each operation did, kept in its row by a store or two a step. Cells hold step numbers or items.
+// The journal of a run: what each operation did, kept in its row by a store or two a step. Cells hold step numbers or items. That there is
+// a row, `HasOps`, is asked of each operation: an invariant of the list would need the count, and ask for `o ≤ count` in its place.
 #![tactic(auto)]
 
 ghost use Rattle.std.specs.Prelude.{◌≡◌, ◌<◌, max, true, length};

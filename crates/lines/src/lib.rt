@@ -326,6 +326,7 @@ impl Iterator for Left<'_> {
 
     ghost remaining = { item_count items };
 
+    // A `while`, since it passes nodes that are dead: how many is not known before.
     fn next(&mut self) -> Option<u16> {
         while self.more != 0 && self.node != 0 {
             let here = self.node;

@@ -109,7 +109,7 @@ pub struct Place {
 // What a step was for the record.
 #[derive(Clone, Copy, Debug, PartialEq, Eq)]
 pub enum Event {
-    // none of those below
+    // none of those below; a case and no `None`, since the definitions (`event_of`) and the theory's proofs name it
     Quiet,
     // T1, R1 or W2: a take begins a round
     Round,

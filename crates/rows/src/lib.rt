@@ -1,5 +1,6 @@
 // Rows of cells in one lent list: a row for each operation, or for each node. A cell is a u16 of lent memory, whatever its column holds:
-// a step, an operation, a node or a mark.
+// a step, an operation, a node or a mark. Flat, and no list of structs: what the must-fail edits `rows-over-each-other` and
+// `stored-a-column-further` get wrong is how the cells of rows lie in one list.
 #![tactic(auto)]
 
 ghost use Rattle.std.specs.Prelude.{◌≡◌, ℕ, ◌<◌};

@@ -17,7 +17,7 @@ ghost use Rattle.salvager.specs.Given.{given_length, given_kept, given_named};
 ghost use Rattle.salvager.specs.Saved.{Saved};
 
 use block::{BLOCK, PAYLOAD};
-use job::{Limits, Refusal, Stream};
+use job::{Limits, Refusal, Stream, schedule_at};
 use memory::{clear, put_word};
 use reader::take_block;
 use writer::write;
@@ -51,7 +51,7 @@ fn gather(file: &[u8], count: usize, work: &mut [u8]) -> usize
 fn records_end(stream: &Stream) -> usize
     ensures { result ≡ records_end stream.now }
 {
-    6 + 4 * usize::from(stream.operations())
+    schedule_at(stream.operations()) + 1
 }
 
 // Shortens the schedule of a stream to the entries that are there: where it then ends.
