@@ -1,4 +1,4 @@
-// The calls of the bench for C and Rust. Each gives number × 2^32 + length; include/bench.h says what each number means.
+// The calls of the bench for C and Rust, a function for each name of the C interface. Each gives number × 2^32 + length; include/bench.h says what each number means.
 #![tactic(auto)]
 
 ghost use Rattle.std.specs.Prelude.{◌≡◌, List, ℕ, ◌<◌, ◌^◌};

@@ -123,7 +123,7 @@ impl Weekday {
         }
     }
 
-    // The weekday of the next day.
+    // The weekday of the next day. The day before is a function of its own, as the definitions have both.
     pub fn next(self) -> Weekday
         ensures { weekday_number result ≡ weekday_after (weekday_number self) }
     {

@@ -144,7 +144,7 @@ impl From<BlockError> for Refusal {
     }
 }
 
-// The length that a call gives. "A refusal gives its number and length 0".
+// The length that a call gives. "A refusal gives its number and length 0": an `Err` has none, and a read clears the work memory behind it.
 pub fn length_of(answer: Result<usize, Refusal>) -> usize
     ensures { result ≡ answer_length answer }
 {
@@ -192,7 +192,7 @@ impl Limits {
         }
     }
 
-    // The length of the longest file.
+    // The length of the longest file. As many blocks as the joined stream below, but of another size, which has a name of its own.
     pub fn most_file(self) -> usize
         requires { Sound self }
         ensures { result ≡ most_file self }

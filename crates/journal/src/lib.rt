@@ -41,7 +41,7 @@ fn store_later(ops: &mut [u16], i: u16, column: OpColumn, k: Step)
     store(ops, i, column, later);
 }
 
-// T5 moved Head, or W4 cleared a flag: the operation took the item, whose line stands at the first such step.
+// T5 moved Head, or W4 cleared a flag: the operation took the item, whose line stands at the first such step. Beside `note_raise`, since the paper's two rules differ.
 fn note_move(n: u16, o: Operation, k: Step, ops: &mut [u16])
     requires { HasOps o.0 ops.old × HasOps n ops.old }
     ensures { cells ops.new ≡ stored Stands n (earlier (cells ops.old Stands n) k.0) (stored Taken o.0 n (cells ops.old)) }
@@ -120,7 +120,7 @@ pub fn enter_drop(o: Operation, ops: &mut [u16])
     store(ops, o.0, OpColumn::Last, rows::DROPPED);
 }
 
-// Enters step k as the last of operation o, if it ended there.
+// Enters step k as the last of operation o, if it ended there: a flag, since the definition `closed` is about both.
 pub fn enter_end(ends: bool, o: Operation, k: Step, ops: &mut [u16])
     requires { HasOps o.0 ops.old }
     ensures { cells ops.new ≡ closed ends o.0 k.0 (cells ops.old) }

@@ -8,7 +8,7 @@ use job::{Limits, Operation, Step};
 use rows::{Column, NodeColumn, OpColumn};
 
 // Where an operation stands: at one of the 36 rows of the listings, or ended, with done, with item n, with item t,
-// or with empty.
+// or with empty. The ends are rows too, and no `Option` of one, since a row's successor in the table and in the definitions may be an end.
 #[derive(Clone, Copy, Debug, PartialEq, Eq)]
 pub enum Row {
     Q1,

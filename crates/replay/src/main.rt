@@ -20,7 +20,7 @@ const WINDOWS: usize = BLOCK + 1;
 const NAME: usize = 4095;
 
 // How many bytes a file has, which then stand in front: at most as many as the memory has, and as many where it cannot be read, so that it
-// is refused as a longer one is.
+// is refused as a longer one is: no `Err`, since the library numbers the refusal.
 fn load<R: Read>(from: &mut R, to: &mut [u8]) -> usize
     ensures { IsPrefixLen result to.new }
 {

@@ -25,7 +25,7 @@ fn put_line(page: &mut Page, kept: u16, named: u16)
     page.put_bytes(b" entries\n");
 }
 
-// Says it, and whether it was written whole.
+// Says it, and whether it was written whole: as `show`, no error of the program.
 fn tell<W: Write>(to: &mut W, kept: u16, named: u16) -> bool
     ensures { OnTrue result (Appends (W.contents to.old) (W.contents to.new) (kept_line kept named)) }
 {

@@ -48,7 +48,7 @@ fn tried(d: Accessed, ops: &mut [u16]) -> Accessed
     d
 }
 
-// A Q5 or T4, which is a lost round whether it moved Tail or not.
+// A Q5 or T4, which is a lost round whether it moved Tail or not. Beside `tried`, since they count by different tests.
 #[tactic(auto, unfolding(journal::specs::Stored::counted, basics::specs::Choice::pick))]
 fn helped(d: Accessed, ops: &mut [u16]) -> Accessed
     requires { Countable ops.old }
