@@ -12,6 +12,7 @@ use block::{BLOCK, PAYLOAD, check};
 use calendar::Date;
 use job::Process;
 use memory::word_at;
+use std::marker::Model;
 
 // The processes that a block books for, however many a job has.
 const PROCESSES: u8 = 8;
@@ -38,95 +39,114 @@ pub struct Entry {
     pub closing: u16,
 }
 
-// The year of the start.
-#[tactic(auto, unfolding(block::specs::Block::block_size, basics::specs::Maps::at, crate::specs::Fields::year))]
-pub fn year(b: &[u8]) -> u16
-    requires { block_size ≤ length b.now }
-    ensures { result ≡ year b.now }
-{
-    word_at(b, 2)
+// A window block, which is whole: it has at least 512 bytes. A clause sees its bytes.
+#[derive(Drop)]
+pub struct WindowBlock<'a> {
+    bytes: &'a [u8],
 }
 
-// Its month.
-#[tactic(auto, unfolding(block::specs::Block::block_size, basics::specs::Maps::at, crate::specs::Fields::month))]
-pub fn month(b: &[u8]) -> u8
-    requires { block_size ≤ length b.now }
-    ensures { result ≡ month b.now }
-{
-    b[4]
+impl<'a> Model for WindowBlock<'a> {
+    ghost use Rattle.std.specs.Prelude.{List, ℕ, ◌≤◌, length};
+    ghost use Rattle.block.specs.Block.{block_size};
+
+    ghost Value = { List ℕ };
+
+    ghost view = { λ b. b.bytes.now };
+
+    ghost invariant = { λ b. block_size ≤ length b.bytes.now };
 }
 
-// Its day.
-#[tactic(auto, unfolding(block::specs::Block::block_size, basics::specs::Maps::at, crate::specs::Fields::day))]
-pub fn day(b: &[u8]) -> u8
-    requires { block_size ≤ length b.now }
-    ensures { result ≡ day b.now }
-{
-    b[5]
-}
-
-// The date of the start, if it is one of the years 2000 to 2099.
-pub fn start_date(b: &[u8]) -> Option<Date>
-    requires { block_size ≤ length b.now }
-    ensures { MatchOption result (in_century (year b.now) (month b.now) (day b.now) ≡ false) (λ d. (d.year ≡ year b.now) × (d.month ≡ month b.now) × (d.day ≡ day b.now)) }
-{
-    Date::new(year(b), month(b), day(b))
-}
-
-// Its second of the day.
-#[tactic(auto, unfolding(block::specs::Block::block_size, basics::specs::Maps::at, crate::specs::Fields::second))]
-pub fn second(b: &[u8]) -> u32
-    requires { block_size ≤ length b.now }
-    ensures { result ≡ second b.now }
-{
-    65536 * (word_at(b, 6) as u32) + word_at(b, 8) as u32
-}
-
-// The entry of a process.
-#[tactic(auto, unfolding(block::specs::Block::block_size, basics::specs::Maps::at, crate::specs::Fields::weekdays, crate::specs::Fields::opening, crate::specs::Fields::closing, crate::specs::Fields::entry_at, crate::specs::Entry::entry_of))]
-pub fn entry_of(b: &[u8], p: Process) -> Entry
-    requires { (block_size ≤ length b.now) × (p.0 < booked_processes) }
-    ensures { result ≡ entry_of b.now p.0 }
-{
-    let place = ENTRIES + ENTRY * (p.0 as usize);
-    Entry {
-        weekdays: b[place],
-        opening: word_at(b, place + 1),
-        closing: word_at(b, place + 3),
+impl<'a> WindowBlock<'a> {
+    // The block in some bytes.
+    pub fn over(bytes: &'a [u8]) -> WindowBlock<'a>
+        requires { block_size ≤ length bytes.now }
+        ensures { result ≡ bytes.now }
+    {
+        WindowBlock { bytes }
     }
-}
 
-// Is the start out of range, or no date?
-fn bad_start(b: &[u8]) -> bool
-    requires { block_size ≤ length b.now }
-    ensures { result ≡ bad_start b.now }
-{
-    start_date(b).is_none() || second(b) >= DAY_SECONDS
-}
+    // The year of the start.
+    #[tactic(auto, unfolding(block::specs::Block::block_size, basics::specs::Maps::at, crate::specs::Fields::year))]
+    pub fn year(&self) -> u16
+        ensures { result ≡ year self.now }
+    {
+        word_at(self.bytes, 2)
+    }
 
-// Is the entry of a process out of range?
-fn bad_window(b: &[u8], p: Process) -> bool
-    requires { (block_size ≤ length b.now) × (p.0 < booked_processes) }
-    ensures { result ≡ bad_window b.now p.0 }
-{
-    let entry = entry_of(b, p);
-    entry.weekdays > ALL_DAYS || DAY_MINUTES < entry.opening || DAY_MINUTES < entry.closing
-}
+    // Its month.
+    #[tactic(auto, unfolding(block::specs::Block::block_size, basics::specs::Maps::at, crate::specs::Fields::month))]
+    pub fn month(&self) -> u8
+        ensures { result ≡ month self.now }
+    {
+        self.bytes[4]
+    }
 
-// Is an entry out of range?
-fn bad_entries(b: &[u8]) -> bool
-    requires { block_size ≤ length b.now }
-    ensures { result ≡ bad_entries b.now }
-{
-    (0..PROCESSES).any(|p| bad_window(b, Process(p)))
-}
+    // Its day.
+    #[tactic(auto, unfolding(block::specs::Block::block_size, basics::specs::Maps::at, crate::specs::Fields::day))]
+    pub fn day(&self) -> u8
+        ensures { result ≡ day self.now }
+    {
+        self.bytes[5]
+    }
 
-// Is a byte behind the entries not zero?
-fn bad_rest(b: &[u8]) -> bool
-    requires { block_size ≤ length b.now }
-    ensures { result ≡ bad_rest b.now }
-{
-    b[REST..REST_END].iter().any(|byte| *byte != 0)
+    // The date of the start, if it is one of the years 2000 to 2099.
+    pub fn start_date(&self) -> Option<Date>
+        ensures { MatchOption result (in_century (year self.now) (month self.now) (day self.now) ≡ false) (λ d. (d.year ≡ year self.now) × (d.month ≡ month self.now) × (d.day ≡ day self.now)) }
+    {
+        Date::new(self.year(), self.month(), self.day())
+    }
+
+    // Its second of the day.
+    #[tactic(auto, unfolding(block::specs::Block::block_size, basics::specs::Maps::at, crate::specs::Fields::second))]
+    pub fn second(&self) -> u32
+        ensures { result ≡ second self.now }
+    {
+        65536 * (word_at(self.bytes, 6) as u32) + word_at(self.bytes, 8) as u32
+    }
+
+    // The entry of a process.
+    #[tactic(auto, unfolding(block::specs::Block::block_size, basics::specs::Maps::at, crate::specs::Fields::weekdays, crate::specs::Fields::opening, crate::specs::Fields::closing, crate::specs::Fields::entry_at, crate::specs::Entry::entry_of))]
+    pub fn entry(&self, p: Process) -> Entry
+        requires { p.0 < booked_processes }
+        ensures { result ≡ entry_of self.now p.0 }
+    {
+        let place = ENTRIES + ENTRY * (p.0 as usize);
+        Entry {
+            weekdays: self.bytes[place],
+            opening: word_at(self.bytes, place + 1),
+            closing: word_at(self.bytes, place + 3),
+        }
+    }
+
+    // Is the start out of range, or no date?
+    fn bad_start(&self) -> bool
+        ensures { result ≡ bad_start self.now }
+    {
+        self.start_date().is_none() || self.second() >= DAY_SECONDS
+    }
+
+    // Is the entry of a process out of range?
+    fn bad_window(&self, p: Process) -> bool
+        requires { p.0 < booked_processes }
+        ensures { result ≡ bad_window self.now p.0 }
+    {
+        let entry = self.entry(p);
+        entry.weekdays > ALL_DAYS || DAY_MINUTES < entry.opening || DAY_MINUTES < entry.closing
+    }
+
+    // Is an entry out of range?
+    fn bad_entries(&self) -> bool
+        ensures { result ≡ bad_entries self.now }
+    {
+        (0..PROCESSES).any(|p| self.bad_window(Process(p)))
+    }
+
+    // Is a byte behind the entries not zero?
+    fn bad_rest(&self) -> bool
+        ensures { result ≡ bad_rest self.now }
+    {
+        self.bytes[REST..REST_END].iter().any(|byte| *byte != 0)
+    }
 }
 
 // Is a block of 512 bytes turned back?
@@ -137,7 +157,8 @@ fn bad_block(b: &[u8]) -> bool
     let Ok(_) = check(b, 0) else {
         return true;
     };
-    bad_start(b) || bad_entries(b) || bad_rest(b)
+    let block = WindowBlock::over(b);
+    block.bad_start() || block.bad_entries() || block.bad_rest()
 }
 
 // Is a second input turned back? Number 13.

@@ -1,9 +1,9 @@
--- `windows::bad_start` meets its contract: no date of the century, or no second of the day. Assumes nothing.
+-- `windows::WindowBlock::bad_start` meets its contract: no date of the century, or no second of the day. Assumes nothing.
 use mathlib.Core.Path.{ap, ◌∙◌}
 use mathlib.Core.Bool.{not}
 use Rattle.calendar.proofs.Century.{century_of}
 use Rattle.windows.proofs.Tests.{date_missing, date_there}
-use Rattle.windows.proofs.bad_start.Goals as goal
+use Rattle.windows.proofs.WindowBlock.bad_start.Goals as goal
 
 pub returns-then-is_none : goal.returns-then-is_none
 returns-then-is_none c =
