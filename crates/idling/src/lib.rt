@@ -10,12 +10,12 @@ ghost use Rattle.job.specs.Job.{job_of};
 ghost use Rattle.job.specs.Ready.{Ready, Named};
 ghost use Rattle.job.specs.Stream.{schedule_length};
 ghost use Rattle.calendar.specs.Named.{weekday_number};
-ghost use Rattle.windows.specs.Fields.{day_minutes, day_seconds};
+ghost use Rattle.windows.specs.Fields.{second, day_minutes, day_seconds};
 ghost use Rattle.windows.specs.Refused.{bad_windows};
 ghost use Rattle.windows.specs.Fine.{FineBlock};
 ghost use Rattle.hours.specs.Open.{closes, has_weekday};
 ghost use Rattle.hours.specs.Windowed.{windowed};
-ghost use Rattle.idling.specs.Minutes.{start_weekday, window_of, holds, open_at, no_window, InDays};
+ghost use Rattle.idling.specs.Minutes.{window_of, holds, open_at, no_window, InDays};
 ghost use Rattle.idling.specs.Eight.{Eight};
 ghost use Rattle.idling.specs.Rewritten.{Rewritten};
 ghost use Rattle.idling.specs.Entries.{entry_kept, entries_kept, may_act, first_entry};
@@ -23,7 +23,8 @@ ghost use Rattle.idling.specs.Entries.{entry_kept, entries_kept, may_act, first_
 use calendar::Weekday;
 use job::{Limits, Process, Slot, Stream, schedule_at};
 use std::array;
-use windows::{DAY_MINUTES, entry_of, second, start_date};
+use std::marker::Model;
+use windows::{DAY_MINUTES, WindowBlock};
 
 // The process of an idle step: one that no job has. An entry of the schedule is a byte, so it is a number.
 const NOBODY: u8 = Limits::PROCESSES as u8;
@@ -61,35 +62,66 @@ fn closes(from: u16, to: u16) -> u16
     if to < from { to + DAY_MINUTES } else { to }
 }
 
-// The window of process p, where w is the weekday of the start.
-fn window_of(b: &[u8], p: Process, w: Weekday) -> Window
-    requires { FineBlock b.now × (p.0 < field.processes) × (weekday_number w ≡ start_weekday b.now) }
-    ensures { result ≡ window_of b.now p.0 }
-{
-    let entry = entry_of(b, p);
-    Window {
-        yesterday: has_weekday(entry.weekdays, w.previous()),
-        today: has_weekday(entry.weekdays, w),
-        tomorrow: has_weekday(entry.weekdays, w.next()),
-        opens: entry.opening,
-        closes: closes(entry.opening, entry.closing),
+// A block that is not turned back, and the weekday of its start. A clause sees the block's bytes.
+#[derive(Drop)]
+struct Booked<'a> {
+    block: WindowBlock<'a>,
+    weekday: Weekday,
+}
+
+impl<'a> Model for Booked<'a> {
+    ghost use Rattle.std.specs.Prelude.{◌≡◌, List, ℕ};
+    ghost use Rattle.calendar.specs.Named.{weekday_number};
+    ghost use Rattle.windows.specs.Fine.{FineBlock};
+    ghost use Rattle.idling.specs.Minutes.{start_weekday};
+
+    ghost Value = { List ℕ };
+
+    ghost view = { λ b. b.block };
+
+    ghost invariant = { λ b. FineBlock b.block × (weekday_number b.weekday ≡ start_weekday b.block) };
+}
+
+impl<'a> Booked<'a> {
+    // The block in some bytes.
+    fn over(bytes: &'a [u8]) -> Booked<'a>
+        requires { FineBlock bytes.now }
+        ensures { result ≡ bytes.now }
+    {
+        let block = WindowBlock::over(bytes);
+        let weekday = block.start_date().unwrap().weekday();
+        Booked { block, weekday }
     }
-}
 
-// The weekday of the start.
-fn weekday_of(b: &[u8]) -> Weekday
-    requires { FineBlock b.now }
-    ensures { weekday_number result ≡ start_weekday b.now }
-{
-    start_date(b).unwrap().weekday()
-}
+    // Its second of the day.
+    fn second(&self) -> u32
+        ensures { result ≡ second self.now }
+    {
+        self.block.second()
+    }
 
-// All windows of a block, where w is the weekday of the start.
-fn windows_of(b: &[u8], w: Weekday) -> Bookings
-    requires { FineBlock b.now × (weekday_number w ≡ start_weekday b.now) }
-    ensures { Eight no_window (window_of b.now) result }
-{
-    array::from_fn(|p| window_of(b, Process(p as u8), w))
+    // The window of a process.
+    fn window_of(&self, p: Process) -> Window
+        requires { p.0 < field.processes }
+        ensures { result ≡ window_of self.now p.0 }
+    {
+        let entry = self.block.entry(p);
+        let day = self.weekday;
+        Window {
+            yesterday: has_weekday(entry.weekdays, day.previous()),
+            today: has_weekday(entry.weekdays, day),
+            tomorrow: has_weekday(entry.weekdays, day.next()),
+            opens: entry.opening,
+            closes: closes(entry.opening, entry.closing),
+        }
+    }
+
+    // All its windows.
+    fn windows(&self) -> Bookings
+        ensures { Eight no_window (window_of self.now) result }
+    {
+        array::from_fn(|p| self.window_of(Process(p as u8)))
+    }
 }
 
 // Does a window that opens and closes at these minutes hold a minute, if it is booked?
@@ -194,5 +226,6 @@ pub fn shut(b: &[u8], s: &mut [u8])
     if b.is_empty() {
         return;
     }
-    shut_steps(&windows_of(b, weekday_of(b)), second(b), s);
+    let booked = Booked::over(b);
+    shut_steps(&booked.windows(), booked.second(), s);
 }
