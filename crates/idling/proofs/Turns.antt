@@ -47,7 +47,11 @@ module _ (windows : List Window) (second : ℕ) (s₀ : List ℕ) {first steps :
       }
 
   module _ {minute end done : ℕ} {s : List ℕ} (t : Turning windows second s₀ first steps minute end done s) where
-    -- the entries are in the stream
+    -- the entries are in the stream, which is short
+    pub turning_short : Ready s₀ → first + steps ≤ 6 + 4 * field.operations + field.steps
+    unfolding first_entry
+    turning_short ready = omega (arith, t.at_first, t.all_steps, ready.rows, ready.cells)
+
     pub turning_fits : Ready s₀ → first + steps ≤ length s
     unfolding first_entry stream_length
     turning_fits ready = omega (arith, t.at_first, t.all_steps, t.written.size, ready.whole)

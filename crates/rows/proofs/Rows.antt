@@ -1,7 +1,8 @@
 -- A store in a row: its own column is updated there, and every other column stays. For rows of any width and columns. Assumes nothing.
 use mathlib.Core.Path.{◌≡◌, sym, ap, fun_ext, ◌∙◌}
 use mathlib.Core.Logic.{◌≢◌}
-use Prim.Native.Nat.{ℕ, ◌+◌, ◌*◌, ◌<◌, ◌/◌}
+use Prim.Native.Nat.{ℕ, suc, ◌+◌, ◌*◌, ◌≤◌, ◌<◌, ◌/◌}
+use native.Mathlib.Nat.{mul-le-mul_left, mul-suc}
 use Rattle.std.proofs.lemmas.Nat.{div-mul-add}
 use native.Mathlib.Omega.{arith}
 use mathlib.Core.List.{List}
@@ -10,6 +11,12 @@ use Rattle.basics.specs.Maps.{at, upd}
 use Rattle.basics.proofs.Choice.{pick_elim, same_equal, same_unequal}
 use Rattle.basics.proofs.Maps.{upd_here, upd_there, upd_elim}
 use Rattle.rows.specs.Rows.{place, column, cells_of, stored_in}
+
+-- a row ends before a later one begins
+before_next : (width i j : ℕ) → i < j → width * i + width ≤ width * j
+before_next width i j less =
+    let step : width * suc i ≤ width * j = mul-le-mul_left width less in
+    omega (arith, mul-suc width i)
 
 module _ {width : ℕ} where
   -- two cells at one place are of one row

@@ -7,8 +7,8 @@ use native.Mathlib.Numerals.{add-one}
 use native.Mathlib.Omega.{arith}
 use mathlib.Core.Bool.{Bool}
 use mathlib.Core.List.{List, [], ◌∷◌}
-use lib.ListN.{length, get_or, set, drop, replicate, length-replicate, drop_of_length-le}
-use lib.Seq.{drop-cons}
+use lib.ListN.{length, get_or, set, drop, replicate, length-set, length-replicate, drop_of_length-le}
+use lib.Seq.{get_or-set_same, get_or-set_other, drop-cons}
 use Rattle.basics.specs.Choice.{same}
 use Rattle.basics.proofs.Choice.{split, compare, pick_then, pick_else, lt_less, le_less}
 use Rattle.job.specs.Job.{Job}
@@ -18,6 +18,10 @@ use Rattle.machine.proofs.Searches.{seek_from, seek_to}
 use Rattle.theory.proofs.Nobody.{Free, none_after}
 use Rattle.machine.specs.Run.{before, operation_after, fresh_state, state_after}
 use Rattle.run.specs.Promise.{nowhere, run_places, InPlace, still, working}
+
+-- places stay as many where one is stored
+all_kept : (places : List Place) (p : ℕ) (r : Place) → length places ≡ run_places → length (set places p r) ≡ run_places
+all_kept places p r whole = length-set places p r ∙ whole
 
 -- the first n places are before their processes' first operations, and the last one, nobody's, is past the last operation
 pub record LinedUp (j : Job) (n : ℕ) (places : List Place) : Type 0 where
@@ -41,6 +45,20 @@ module _ (j : Job) where
         each = λ p h. absurd (omega arith);
         last = e ∙ ap (before j) (behind_last j nobody ∙ sym (none_after j free));
       }
+
+  pub lined_next : (places : List Place) (p : ℕ) (r : Place) → p < nobody → LinedUp j p places → r ≡ before j (operation_after j p 0) → LinedUp j (p + 1) (set places p r)
+  lined_next places p r in_range l e =
+      record {
+        whole = all_kept places p r l.whole;
+        each = λ q h. go q h (split q p);
+        last = get_or-set_other places p nobody r nowhere (λ q. (let b : ⊥ = omega arith in b)) ∙ l.last;
+      }
+    where
+      go : (q : ℕ) → q < p + 1 → (q ≡ p) ⊎ (q ≢ p) → get_or (set places p r) q nowhere ≡ before j (operation_after j q 0)
+      go q h (inl here) =
+          subst (λ x. get_or (set places p r) x nowhere ≡ before j (operation_after j x 0)) (sym here)
+          (get_or-set_same places p r nowhere (omega (arith, l.whole)) ∙ e)
+      go q h (inr there) = get_or-set_other places p q r nowhere there ∙ l.each q (omega arith)
 
   pub lined_all : {n : ℕ} (places : List Place) → n ≡ nobody → LinedUp j n places → InPlace j 0 places
   unfolding state_after fresh_state

@@ -6,7 +6,7 @@ use native.Mathlib.Omega.{arith}
 use mathlib.Core.List.{List}
 use Rattle.job.specs.declared.Heading.{Heading}
 use Rattle.job.specs.Slot.{process_of}
-use Rattle.job.specs.Job.{job_of}
+use Rattle.job.specs.Job.{Job, job_of}
 use Rattle.machine.specs.declared.Object.{Object}
 use Rattle.machine.specs.declared.Place.{Place}
 use Rattle.machine.specs.Idle.{IdleBehind}
@@ -40,14 +40,18 @@ module _ {stream : List ℕ} {job : Heading} (r : Runnable stream job) {k : ℕ}
         idle_step = λ s later upto. sym (ran_to_end.journal.by_at s (omega arith) upto) ∙ t.ran.journal.by_later s later;
       }
 
+-- behind the last step there is none
+pub none_behind : (j : Job) {reach k : ℕ} → reach ≤ k → k ≤ reach → IdleBehind j reach k
+none_behind j within over = record { within = within; idle_step = λ s later upto. absurd (let x : ⊥ = omega arith in x) }
+
 -- what the loop leaves where it stops, at the last step or before it
 pub record Over (stream : List ℕ) (job : Heading) (reach : ℕ) (object : Object) (nodes ops by : List ℕ) : Type 0 where
   pub ran : Ran (job_of stream) job.steps object nodes ops by
   pub behind : IdleBehind (job_of stream) reach job.steps
 
--- behind the last step there is none
+-- at the last step every step is made
 pub all_made : {stream : List ℕ} {job : Heading} {k reach : ℕ} {places : List Place} {total : ℕ} {object : Object} {nodes₀ ops₀ by₀ nodes ops by : List ℕ} → Turning stream job k places total object nodes₀ ops₀ by₀ nodes ops by → job.steps ≤ k → reach ≡ job.steps → Over stream job reach object nodes ops by
-all_made t over is = record { ran = finished t over; behind = record { within = omega arith; idle_step = λ s later upto. absurd (let x : ⊥ = omega arith in x) } }
+all_made t over is = record { ran = finished t over; behind = none_behind _ (omega arith) (omega arith) }
 
 -- where no process has operations left, the steps behind change nothing
 pub none_left : {stream : List ℕ} {job : Heading} (r : Runnable stream job) {k : ℕ} {places : List Place} {total : ℕ} {object : Object} {nodes₀ ops₀ by₀ nodes ops by : List ℕ} → Turning stream job k places total object nodes₀ ops₀ by₀ nodes ops by → total ≡ 0 → Over stream job k object nodes ops by

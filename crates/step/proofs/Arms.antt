@@ -26,6 +26,10 @@ pub counts_none : (back : Bool) (c : Cells) → back ≡ false → c ≡ counted
 unfolding counted
 counts_none back c e = sym (pick_else (stored First 0 (suc (c First 0)) c) c e)
 
+-- by how the access came out
+pub counts_if : (a : Access) {outcome o : Outcome} (c : Cells) {after : Cells} → outcome ≡ o → after ≡ counted (goes_back a o) c → after ≡ counted (goes_back a outcome) c
+counts_if a c told e = e ∙ ap (λ o. counted (goes_back a o) c) (sym told)
+
 -- a note leaves the count of lost rounds
 pub countable_noted : (e : Event) (o k : ℕ) {ops ops' : List ℕ} → Countable ops → length ops' ≡ length ops → cells ops' ≡ noted e o k (cells ops) → Countable ops'
 countable_noted e o k {ops} n kept stores =

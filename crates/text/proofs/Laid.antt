@@ -1,11 +1,12 @@
 -- Laws of `laid`: laying one thing behind another is laying both, and so is laying it before. Assumes nothing.
 use mathlib.Core.Path.{◌≡◌, refl, sym, ap, ◌∙◌}
-use Prim.Native.Nat.{ℕ, suc, ◌+◌, ◌≤◌}
+use Prim.Native.Nat.{ℕ, suc, ◌+◌, ◌≤◌, ◌<◌}
 use native.Mathlib.Nat.{add-zero}
+use native.Mathlib.Numerals.{add-one}
 use native.Mathlib.Omega.{arith}
 use mathlib.Core.List.{List, [], ◌∷◌, ◌++◌, append_assoc, append-nil}
 use lib.ListN.{length, take, drop, get_or, set, length-append, length-drop, take-append-drop}
-use lib.Seq.{length-take-le, take-suc, set_at, take_all, take_at, drop_at, drop-drop}
+use lib.Seq.{length-take-le, take-suc, set_split, set_at, take_all, take_at, drop_at, drop-drop}
 use borrow.Rule.Slice.PartMut.{put_mid}
 use Rattle.std.proofs.lemmas.Slice.{put_mid-paste}
 use Rattle.text.specs.Laid.{laid}
@@ -53,6 +54,14 @@ laid_then out at a b room =
     ap (λ (l : List ℕ). l ++ b ++ drop (at + length a + length b) mid) (take_laid out at a room_a)
     ∙ ap (λ (l : List ℕ). take at out ++ a ++ b ++ l) back
     ∙ ap (λ (l : List ℕ). l ++ drop (at + length (a ++ b)) out) (append_assoc (take at out) a b)
+
+-- a store lays one byte
+pub set_is_laid : (out : List ℕ) (i b : ℕ) → i < length out → set out i b ≡ laid out i (b ∷ [])
+unfolding laid
+set_is_laid out i b h =
+    set_split out i b h
+    ∙ ap (λ (n : ℕ). take i out ++ b ∷ drop n out) (sym (add-one i))
+    ∙ sym (append_assoc (take i out) (b ∷ []) (drop (i + 1) out))
 
 -- a store in front of what is laid
 pub set_before_laid : (out : List ℕ) (i b : ℕ) (bytes : List ℕ) → suc i + length bytes ≤ length out → set (laid out (suc i) bytes) i b ≡ laid out i (b ∷ bytes)

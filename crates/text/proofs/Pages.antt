@@ -1,18 +1,23 @@
 -- Laws of `HasRoom` and `Wrote`: writing one text and then another is writing both. Assumes nothing.
 use mathlib.Core.Path.{◌≡◌, refl, sym, ap, subst, ◌∙◌}
-use Prim.Native.Nat.{ℕ, ◌+◌, ◌≤◌}
+use Prim.Native.Nat.{ℕ, ◌+◌, ◌≤◌, ◌<◌}
 use native.Mathlib.Nat.{add-zero}
 use native.Mathlib.Omega.{arith}
-use mathlib.Core.List.{List, [], ◌++◌}
-use lib.ListN.{length, length-append}
+use mathlib.Core.List.{List, [], ◌∷◌, ◌++◌}
+use lib.ListN.{length, set, length-append}
 use Rattle.text.specs.Laid.{laid}
 use Rattle.text.specs.declared.Page.{Page}
 use Rattle.text.specs.Pages.{HasRoom, Wrote}
-use Rattle.text.proofs.Laid.{laid_nothing, length_laid, laid_then}
+use Rattle.text.proofs.Laid.{laid_nothing, length_laid, laid_then, set_is_laid}
 
 pub wrote_nothing : {p : Page} → p.at ≤ length p.memory.now → Wrote p p []
 wrote_nothing {p} h =
     record { fits = record { room = omega arith }; lays = sym (laid_nothing p.memory.now p.at); behind = sym (add-zero p.at); same_memory = refl }
+
+-- a byte that is stored where the next one goes is written
+pub wrote_byte : {p q : Page} {b : ℕ} → p.at < length p.memory.now → q.memory.now ≡ set p.memory.now p.at b → q.at ≡ p.at + 1 → q.memory.ghost_name ≡ p.memory.ghost_name → Wrote p q (b ∷ [])
+wrote_byte {p} {q} {b} h stored on same =
+    record { fits = record { room = let r : p.at + 1 ≤ length p.memory.now = omega arith in r }; lays = stored ∙ set_is_laid p.memory.now p.at b h; behind = on; same_memory = same }
 
 -- a page's memory stays as long as it is
 pub as_long : {p q : Page} {a : List ℕ} → Wrote p q a → length q.memory.now ≡ length p.memory.now
