@@ -1,6 +1,7 @@
 // The 21 accesses of the step table, a function for each: what a row does to shared memory and to the registers of its
 // operation. Document 01: "A step is one read, one write or one compare-and-set of shared memory, with the private work after it."
 // Two that differ only in a register or a cell stay two: a field can be no parameter, and the paper has a sentence for each.
+// That a node has a row, `HasNodes`, is asked of each node that a register names: an invariant of the list would ask it of all.
 #![tactic(auto)]
 
 ghost use Rattle.std.specs.Prelude.{◌≡◌, ℕ};

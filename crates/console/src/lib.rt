@@ -35,7 +35,7 @@ pub fn refuse<W: Write>(to: &mut W, number: u8) -> bool
     writeln!(to, "refused {number}").is_ok()
 }
 
-// The first bytes of a memory, and whether they were written whole: never where the memory has fewer, and then nothing is written.
+// The first bytes of a memory, and whether they were written whole: never where the memory has fewer, and then nothing is written. A bool, as of `refuse`.
 pub fn show<W: Write>(to: &mut W, bytes: &[u8], count: usize) -> bool
     ensures whole { OnTrue result (Shown (W.contents to.old) (W.contents to.new) bytes.now count) }
     ensures short { length bytes.now < count → (result ≡ false) × Keeps (W.contents to.old) (W.contents to.new) }

@@ -247,7 +247,8 @@ fn bad_entry(entry: u8, processes: u8) -> bool
     Slot::from(entry).process().0 >= processes
 }
 
-// The stream of a job, which is at least as long as its header. A clause sees its bytes.
+// The stream of a job, which is at least as long as its header. A clause sees its bytes. That it has a record, `HasRecord`, is asked of each operation:
+// a stream that is refused may have fewer than its header says.
 #[derive(Drop)]
 pub struct Stream<'a> {
     bytes: &'a [u8],

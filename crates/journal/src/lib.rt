@@ -1,5 +1,5 @@
 // The journal of a run: what each operation did, kept in its row by a store or two a step. Cells hold step numbers or items. That there is
-// a row, `HasOps`, is asked of each operation: an invariant of the list would need the count, and ask for `o ≤ count` in its place.
+// a row, `HasOps`, is asked of each operation: an invariant of the list would need the count, and ask for `o ≤ count` in its place. So is `HasCells`, of what an event stores to.
 #![tactic(auto)]
 
 ghost use Rattle.std.specs.Prelude.{◌≡◌, ◌<◌, max, true, length};
@@ -94,7 +94,7 @@ pub fn lost_rounds(ops: &[u16]) -> u16
     cell(ops, 0, OpColumn::First)
 }
 
-// Enters step k, made by operation o.
+// Enters step k, made by operation o. Who made each step is a list of u16, as rows are: lent memory, of which a blank cell is 0, nobody.
 pub fn enter(o: Operation, k: Step, ops: &mut [u16], by: &mut [u16])
     requires { HasOps o.0 ops.old × (k.0 < length by.old) }
     ensures ops_after { cells ops.new ≡ entered o.0 k.0 (cells ops.old) }

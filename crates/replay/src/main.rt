@@ -53,6 +53,7 @@ fn load_windows<R: Env + Files>(rt: &R, to: &mut [u8]) -> usize
     load(&mut file, to)
 }
 
+// Inputs have a memory and a length beside it, since nothing is allocated.
 fn main(rt: HostRuntime) {
     let mut file = [0u8; INPUT];
     let n = read_full(&mut rt.stdin(), &mut file);

@@ -36,7 +36,8 @@ fn tell<W: Write>(to: &mut W, kept: u16, named: u16) -> bool
     show(to, said, said.len())
 }
 
-// No more is read than the longest file has, since nothing behind it matters. The line is written only behind a file that was written whole.
+// No more is read than the longest file has, since nothing behind it matters. The line is written only behind a file that was written whole. The input has a
+// memory and a length beside it, since nothing is allocated.
 fn main(rt: HostRuntime) {
     let mut file = [0u8; Limits::FILE];
     let n = read_full(&mut rt.stdin(), &mut file);

@@ -23,7 +23,7 @@ fn width(n: u16) -> usize
     5
 }
 
-// Lent memory that is written from its front on.
+// Lent memory that is written from its front on. That there is room, `HasRoom`, is asked for each text: it is between the page and the text.
 #[derive(Drop)]
 pub struct Page<'a> {
     memory: &'a mut [u8],
